@@ -1,0 +1,4 @@
+pub mod Values
+pub mod Shifts
+pub mod Digits
+pub mod Patterns

@@ -1,0 +1,75 @@
+// The natural logarithm, by document 01's rule.
+ghost use mathlib.Core.Path.{_≡_};
+ghost use Prim.Native.Nat.{_≤_, _<_};
+ghost use lib.IntN.{pos, _-ℤ_};
+ghost use lib.Ieee.{binary64, ofInt};
+ghost use Rattle.floats.specs.Numbers.{_/ᶠ_, whole};
+ghost use Rattle.elementary.specs.Logarithm.{series, lnOf, lnScaled, ln};
+use crate::parts::parts_of;
+use crate::parts::placed;
+
+// The sum of z^j / (2j + 1) for j up to 10, from the last term on.
+fn series(z: f64) -> f64
+    ensures { λ r. ⌜ r ≡ series 10 z (whole 1 /ᶠ whole 21) ⌝ }
+{
+    let p = 1.0 / 21.0;
+    let p = p * z + 1.0 / 19.0;
+    let p = p * z + 1.0 / 17.0;
+    let p = p * z + 1.0 / 15.0;
+    let p = p * z + 1.0 / 13.0;
+    let p = p * z + 1.0 / 11.0;
+    let p = p * z + 1.0 / 9.0;
+    let p = p * z + 1.0 / 7.0;
+    let p = p * z + 1.0 / 5.0;
+    let p = p * z + 1.0 / 3.0;
+    p * z + 1.0
+}
+
+// power - 2096 as a float.
+fn exponent(power: u64) -> f64
+    requires { ⌜ power ≤ 4096 ⌝ }
+    ensures { λ r. ⌜ r ≡ ofInt binary64 (pos power -ℤ pos 2096) ⌝ }
+{
+    ((power as i32) - 2096) as f64
+}
+
+// The logarithm of M * 2^(power - 2096), from s = (M - 1) / (M + 1).
+fn summed(power: u64, s: f64) -> f64
+    requires { ⌜ power ≤ 4096 ⌝ }
+    ensures { λ r. ⌜ r ≡ lnOf (pos power -ℤ pos 2096) s ⌝ }
+{
+    exponent(power) * 0.6931471805599453 + 2.0 * s * series(s * s)
+}
+
+// The logarithm of m * 2^(power - 2096), for an m from 1 up to 2.
+fn scaled(m: f64, power: u64) -> f64
+    requires { ⌜ power < 4096 ⌝ }
+    ensures { λ r. ⌜ r ≡ lnScaled m (pos power -ℤ pos 2096) ⌝ }
+{
+    if 1.4142135623730951 < m {
+        let half = m / 2.0;
+        return summed(power + 1, (half - 1.0) / (half + 1.0));
+    }
+    summed(power, (m - 1.0) / (m + 1.0))
+}
+
+// The natural logarithm of x.
+pub fn ln(x: f64) -> f64
+    ensures { λ r. ⌜ r ≡ ln x ⌝ }
+{
+    if 0.0 < x {
+        let pattern = f64::to_bits(x);
+        if pattern < 0x7ff0_0000_0000_0000 {
+            let parts = parts_of(pattern);
+            scaled(placed(parts.significand, 1022), parts.power)
+        } else {
+            x
+        }
+    } else {
+        if x == 0.0 {
+            f64::from_bits(0xfff0_0000_0000_0000)
+        } else {
+            0.0 / 0.0
+        }
+    }
+}

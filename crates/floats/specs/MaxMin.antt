@@ -1,0 +1,12 @@
+-- Max and min. Each returns the other operand of a NaN; of two equal numbers, zeros of either sign among them, the first. Definitions only.
+use mathlib.Core.Bool.{cond}
+use lib.Ieee.{Float, ne}
+use Rattle.floats.specs.Numbers.{_<ᶠ_}
+
+-- y where x is below it or x is NaN, and x otherwise
+unfoldable pub max : Float → Float → Float
+max x y = cond (x <ᶠ y) y (cond (ne x x) y x)
+
+-- y where it is below x or x is NaN, and x otherwise
+unfoldable pub min : Float → Float → Float
+min x y = cond (y <ᶠ x) y (cond (ne x x) y x)

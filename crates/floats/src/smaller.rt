@@ -1,0 +1,16 @@
+// The smaller of two values.
+ghost use mathlib.Core.Path.{_≡_};
+ghost use Rattle.floats.specs.MaxMin.{min};
+
+// The smaller of x and y, the other one where one is NaN, and x where they are equal.
+pub fn min(x: f64, y: f64) -> f64
+    ensures { λ r. ⌜ r ≡ min x y ⌝ }
+{
+    if y < x {
+        return y;
+    }
+    if x != x {
+        return y;
+    }
+    x
+}

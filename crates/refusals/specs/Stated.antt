@@ -1,0 +1,29 @@
+-- What each refusal says: document 01's number, and the values that go with it. Definitions only.
+use Prim.Native.Nat.{ℕ}
+use mathlib.Core.List.{List, [], _∷_}
+use Rattle.refusals.specs.declared.Refusal.{Refusal}
+use Rattle.refusals.specs.declared.Refusal.the-variants.{Penalty, MinLen, Channels, Shape, Unequal, TooLong, Room, NonFinite, Pool, Form, Chart, Piece}
+
+-- a number, and the values that are given with it
+pub record Stated : Type 0 where
+  pub number : ℕ
+  pub values : List ℕ
+
+-- a number with nothing beside it
+abbrev pub plain : ℕ → Stated
+plain n = record { number = n; values = [] }
+
+-- the table of document 01; 8 also says the channel and the index
+abbrev pub stated : Refusal → Stated
+stated Penalty = plain 1
+stated MinLen = plain 2
+stated Channels = plain 3
+stated Shape = plain 4
+stated Unequal = plain 5
+stated TooLong = plain 6
+stated Room = plain 7
+stated (NonFinite channel index) = record { number = 8; values = channel ∷ index ∷ [] }
+stated Pool = plain 9
+stated Form = plain 10
+stated Chart = plain 11
+stated Piece = plain 12

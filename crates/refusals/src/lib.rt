@@ -1,0 +1,58 @@
+// Every refusal of the library, and the number by which it is known outside.
+//
+// The numbers and their values are document 01's. They are written here and nowhere else: a caller
+// that prints or stores a refusal asks `number`.
+ghost use mathlib.Core.Path.{_≡_};
+ghost use Rattle.refusals.specs.Stated.{stated};
+
+pub enum Refusal {
+    // A custom penalty is not finite or not above 0.
+    Penalty,
+    // The minimum length is below 2.
+    MinLen,
+    // There are more than 8 lengths.
+    Channels,
+    // The lengths don't add up to the run's length.
+    Shape,
+    // Two lengths differ.
+    Unequal,
+    // A channel has more than 4,096 readings.
+    TooLong,
+    // A lent area is shorter than the call needs.
+    Room,
+    // A reading or a level is NaN or infinite.
+    NonFinite { channel: usize, index: usize },
+    // The functional search needs more candidate slots than were lent.
+    Pool,
+    // The program's input is not of its form.
+    Form,
+    // A chart setting is out of range.
+    Chart,
+    // A piece's start is not below its end, or its end is past the channel.
+    Piece,
+}
+
+impl Refusal {
+    // The number of this refusal.
+    pub fn number(self) -> u64
+        ensures { λ r. ⌜ r ≡ stated self .number ⌝ }
+    {
+        match self {
+            Refusal::Penalty => 1,
+            Refusal::MinLen => 2,
+            Refusal::Channels => 3,
+            Refusal::Shape => 4,
+            Refusal::Unequal => 5,
+            Refusal::TooLong => 6,
+            Refusal::Room => 7,
+            Refusal::NonFinite {
+                channel: _,
+                index: _,
+            } => 8,
+            Refusal::Pool => 9,
+            Refusal::Form => 10,
+            Refusal::Chart => 11,
+            Refusal::Piece => 12,
+        }
+    }
+}

@@ -1,0 +1,69 @@
+//! Document 01's rules for whole powers and the logarithm, in Rust. They are written from the text
+//! alone, in its order of operations, so that they do not repeat a mistake of ours.
+
+/// The bit pattern of `x`. NaNs count as one value, so every NaN has the same one.
+pub fn pattern(x: f64) -> u64 {
+    if x.is_nan() {
+        0x7ff8_0000_0000_0000
+    } else {
+        x.to_bits()
+    }
+}
+
+/// `x` to the power `n`: for the lowest bit first, multiply the result if the bit is set, then
+/// square the base if bits remain.
+pub fn powi(x: f64, n: u64) -> f64 {
+    let mut result = 1.0;
+    let mut base = x;
+    let mut bits = n;
+    while bits != 0 {
+        if bits & 1 == 1 {
+            result *= base;
+        }
+        bits >>= 1;
+        if bits != 0 {
+            base *= base;
+        }
+    }
+    result
+}
+
+/// The natural logarithm of `x`.
+pub fn ln(x: f64) -> f64 {
+    if x.is_nan() || x < 0.0 {
+        return f64::NAN;
+    }
+    if x == 0.0 {
+        return f64::NEG_INFINITY;
+    }
+    if x == f64::INFINITY {
+        return x;
+    }
+    let (mut m, mut e) = split(x);
+    if m > 1.4142135623730951 {
+        m /= 2.0;
+        e += 1;
+    }
+    let s = (m - 1.0) / (m + 1.0);
+    f64::from(e) * 0.6931471805599453 + (2.0 * s) * series(s * s)
+}
+
+/// M and e with `x` = M * 2^e and M in [1, 2), for an `x` that is finite and above zero.
+fn split(x: f64) -> (f64, i32) {
+    if x < f64::MIN_POSITIVE {
+        let (m, e) = split(x * f64::from_bits((1023 + 54) << 52));
+        return (m, e - 54);
+    }
+    let e = (x.to_bits() >> 52) as i32 - 1023;
+    let m = f64::from_bits(x.to_bits() & 0x000f_ffff_ffff_ffff | 0x3ff0_0000_0000_0000);
+    (m, e)
+}
+
+/// P of the rule.
+fn series(z: f64) -> f64 {
+    let mut p = 1.0 / 21.0;
+    for j in (0..=9).rev() {
+        p = p * z + 1.0 / f64::from(2 * j + 1);
+    }
+    p
+}
