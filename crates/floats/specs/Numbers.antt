@@ -2,11 +2,11 @@
 use Prim.Native.Nat.{ℕ, _*_, _/_, _^_}
 use mathlib.Core.Bool.{Bool, true, false}
 use lib.IntN.{ℤ, pos}
-use lib.Ieee.{Float, inf, fin, binary64, low, up, down, add, sub, mul, div, lt, ofInt, round}
+use lib.Ieee.{Float, inf, fin, binary64, low, up, down, add, sub, mul, div, lt, le, ofInt, round}
 
 infixl 65 _+ᶠ_ _-ᶠ_
 infixl 70 _*ᶠ_ _/ᶠ_
-infix 50 _<ᶠ_
+infix 50 _<ᶠ_ _≤ᶠ_
 -- one operation each, rounded once
 abbrev pub _+ᶠ_ : Float → Float → Float
 x +ᶠ y = add binary64 x y
@@ -22,6 +22,9 @@ x /ᶠ y = div binary64 x y
 
 abbrev pub _<ᶠ_ : Float → Float → Bool
 x <ᶠ y = lt x y
+
+abbrev pub _≤ᶠ_ : Float → Float → Bool
+x ≤ᶠ y = le x y
 
 -- +0, and the two infinities
 abbrev pub +0 : Float

@@ -6,6 +6,7 @@ use mathlib.Core.List.{List, [], _∷_}
 use lib.Dec.{eqb}
 use lib.ListN.{getD}
 use Rattle.refusals.specs.Stated.{Stated, stated}
+use Rattle.refusals.specs.Said.{refused}
 use Rattle.refusals.specs.declared.Refusal.{Refusal}
 use Rattle.refusals.specs.declared.Refusal.the-variants.{Penalty, MinLen, Channels, Shape, Unequal, TooLong, Room, NonFinite, Pool, Form, Chart, Piece}
 
@@ -36,3 +37,7 @@ read-back Piece = refl
 
 pub stated-apart : (r q : Refusal) → stated r ≡ stated q → r ≡ q
 stated-apart r q e = sym (read-back r) ∙ ap read e ∙ read-back q
+
+-- nor are two that are said as refusals
+pub refused-apart : (r q : Refusal) → refused (stated r) ≡ refused (stated q) → r ≡ q
+refused-apart r q e = let s : stated r ≡ stated q = cc in stated-apart r q s

@@ -1,0 +1,29 @@
+-- A run of a chart over a series: a state goes from reading to reading, and the state after a reading shows that reading's record. Definitions only.
+use Prim.Native.Nat.{ℕ, zero, suc}
+use mathlib.Core.Bool.{Bool, cond}
+use mathlib.Core.List.{List, [], _∷_, _++_}
+use lib.ListN.{length, getD, drop}
+use lib.Ieee.{Float, nan}
+
+module _ {C S D : Type 0} (shown : S → D) (start : C → S) (step : C → S → ℕ → Float → S) (c : C) (xs : List Float) where
+  -- the state after i readings
+  abbrev pub stateAt : ℕ → S
+  stateAt zero = start c
+  stateAt (suc i) = step c (stateAt i) i (getD xs i nan)
+
+  -- the record of the reading at i, and those of the first n
+  abbrev pub recordAt : ℕ → D
+  recordAt i = shown (stateAt (suc i))
+
+  abbrev pub records : ℕ → List D
+  records zero = []
+  records (suc n) = records n ++ (recordAt n ∷ [])
+
+  -- the indices, among the first n, whose records signal
+  abbrev pub points : (D → Bool) → ℕ → List ℕ
+  points signals zero = []
+  points signals (suc n) = cond (signals (recordAt n)) (points signals n ++ (n ∷ [])) (points signals n)
+
+-- a lent list with results at its front, and behind them what it held
+abbrev pub lent : {D : Type 0} → List D → List D → List D
+lent results entry = results ++ drop (length results) entry

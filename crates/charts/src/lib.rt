@@ -1,0 +1,76 @@
+// What the charts share: the index of an observation and the place on a chart, the answers, the order
+// of a chart's refusals, and, in `proofs/Walk`, the walk of the loop that fills a lent slice of
+// records, proved once for any record and state.
+//
+// No function asks anything of its caller. A chart's refusals are 11, 6 and 7, tried in that order.
+ghost use mathlib.Core.Path.{_≡_};
+ghost use mathlib.Core.Bool.{_&&_, _||_};
+ghost use Rattle.charts.specs.Answers.{admittedAs, countOf, signalledAs};
+use refusals::Refusal;
+
+// The index of an observation in its series, from 0.
+pub struct Observation(pub usize);
+
+// The place of an observation on its chart, from 1.
+pub struct Place(pub usize);
+
+// The answer of `analyze`: how many records were written, or a refusal.
+pub enum Charted {
+    Records(usize),
+    Refused(Refusal),
+}
+
+// The answer of `signal_points`: how many indices were written, or a refusal.
+pub enum Signalled {
+    Points(usize),
+    Refused(Refusal),
+}
+
+pub fn both(a: bool, b: bool) -> bool
+    ensures { λ r. ⌜ r ≡ a && b ⌝ }
+{
+    if a { b } else { false }
+}
+
+pub fn either(a: bool, b: bool) -> bool
+    ensures { λ r. ⌜ r ≡ a || b ⌝ }
+{
+    if a { true } else { b }
+}
+
+// How many records an answer stands for.
+pub fn count(answer: Charted) -> usize
+    ensures { λ r. ⌜ r ≡ countOf answer ⌝ }
+{
+    match answer {
+        Charted::Records(n) => n,
+        Charted::Refused(_) => 0,
+    }
+}
+
+// The answer of `signal_points` that goes with an answer of `analyze`, for so many indices.
+pub fn marked(answer: Charted, points: usize) -> Signalled
+    ensures { λ r. ⌜ r ≡ signalledAs answer points ⌝ }
+{
+    match answer {
+        Charted::Records(_) => Signalled::Points(points),
+        Charted::Refused(refusal) => Signalled::Refused(refusal),
+    }
+}
+
+// The answer for so many readings with room for so many results, by settings that are accepted or not.
+pub fn admitted(accepted: bool, readings: usize, room: usize) -> Charted
+    ensures { λ r. ⌜ r ≡ admittedAs accepted readings room ⌝ }
+{
+    if accepted {
+        if 4096 < readings {
+            Charted::Refused(Refusal::TooLong)
+        } else if room < readings {
+            Charted::Refused(Refusal::Room)
+        } else {
+            Charted::Records(readings)
+        }
+    } else {
+        Charted::Refused(Refusal::Chart)
+    }
+}

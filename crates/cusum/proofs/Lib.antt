@@ -1,0 +1,6 @@
+pub mod Types
+pub mod Hearing
+pub mod Sums
+pub mod RunLength
+pub mod Promise
+pub mod Examples

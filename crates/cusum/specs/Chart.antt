@@ -1,0 +1,77 @@
+-- The CUSUM chart (001): its settings, one reading's step, the records of a series, and the indices that signal. Definitions only.
+use Prim.Native.Nat.{ℕ}
+use mathlib.Core.Bool.{Bool, false, _&&_, _||_, cond}
+use mathlib.Core.List.{List}
+use lib.ListN.{length}
+use lib.Ieee.{Float}
+use Rattle.floats.specs.Numbers.{_+ᶠ_, _-ᶠ_, _/ᶠ_, _<ᶠ_, _≤ᶠ_, +0, whole, ratio}
+use Rattle.floats.specs.Finite.{finite}
+use Rattle.floats.specs.MaxMin.{max}
+use Rattle.charts.specs.Runs as Runs
+use Rattle.charts.specs.Contracts as Contracts
+use Rattle.charts.specs.declared.Charted.{Charted}
+use Rattle.charts.specs.declared.Signalled.{Signalled}
+use Rattle.charts.specs.declared.Observation.{Observation}
+use Rattle.cusum.specs.declared.Cusum.{Cusum}
+use Rattle.cusum.specs.declared.CusumResult.{CusumResult}
+use Rattle.cusum.specs.declared.State.{State}
+
+-- the two constructors; `new` has the defaults k 0.5 and h 5
+abbrev pub withParams : Float → Float → Float → Float → Cusum
+withParams target sigma k h = record { target = target; sigma = sigma; k = k; h = h }
+
+unfoldable pub newOf : Float → Float → Cusum
+newOf target sigma = withParams target sigma (ratio 1 2) (whole 5)
+
+-- target finite; sigma finite and above 0; k finite, not negative; h finite, above 0
+unfoldable pub accepted : Cusum → Bool
+accepted c = finite (c .target) && (finite (c .sigma) && +0 <ᶠ c .sigma) && (finite (c .k) && +0 ≤ᶠ c .k) && (finite (c .h) && +0 <ᶠ c .h)
+
+-- how far a reading lies from the target, in units of sigma
+abbrev pub score : Cusum → Float → Float
+score c x = (x -ᶠ c .target) /ᶠ c .sigma
+
+-- the record of a chart whose sums are now these
+abbrev pub moved : Cusum → Observation → Float → Float → CusumResult
+moved c index upper lower = record { «s_upper» = upper; «s_lower» = lower; signal = c .h <ᶠ upper || c .h <ᶠ lower; index = index }
+
+-- the record of the reading x after another record: both sums move on; a gap carries them forward, without a signal
+unfoldable pub stepOf : Cusum → CusumResult → Observation → Float → CusumResult
+stepOf c before index x =
+    cond (finite x)
+    (moved c index (max (before .«s_upper» +ᶠ score c x -ᶠ c .k) +0) (max (before .«s_lower» -ᶠ score c x -ᶠ c .k) +0))
+    (record { «s_upper» = before .«s_upper»; «s_lower» = before .«s_lower»; signal = false; index = index })
+
+-- before the first reading both sums are 0
+abbrev pub fresh : CusumResult
+fresh = record { «s_upper» = +0; «s_lower» = +0; signal = false; index = record { 0 = 0 } }
+
+-- the same as states of a run, and the record that a state shows
+abbrev pub shownOf : State → CusumResult
+shownOf s = s .shown
+
+abbrev pub startState : Cusum → State
+startState c = record { shown = fresh }
+
+abbrev pub nextState : Cusum → State → ℕ → Float → State
+nextState c s i x = record { shown = stepOf c (s .shown) (record { 0 = i }) x }
+
+-- the record of the reading at i, those of the first n, and the indices among them that signal
+abbrev pub recordAt : Cusum → List Float → ℕ → CusumResult
+recordAt = Runs.recordAt shownOf startState nextState
+
+abbrev pub records : Cusum → List Float → ℕ → List CusumResult
+records = Runs.records shownOf startState nextState
+
+abbrev pub signalOf : CusumResult → Bool
+signalOf r = r .signal
+
+abbrev pub signalling : Cusum → List Float → ℕ → List ℕ
+signalling c xs n = Runs.points shownOf startState nextState c xs signalOf n
+
+-- what `analyze` and `signal_points` answer and leave
+abbrev pub Analyzed : Cusum → List Float → List CusumResult → Charted → List CusumResult → Type 0
+Analyzed c xs entry r exit = Contracts.Analyzed (accepted c) (length xs) (records c xs) entry r exit
+
+abbrev pub Marked : Cusum → List Float → List ℕ → Signalled → List ℕ → Type 0
+Marked c xs entry r exit = Contracts.Marked (accepted c) (length xs) (signalling c xs (length xs)) entry r exit

@@ -1,0 +1,36 @@
+-- What demand 3 speaks of: the reading at which a level is first heard, and the finite readings of a span. Definitions only.
+use Prim.Native.Nat.{ℕ, zero, suc, _+_, _≤_, _<_}
+use mathlib.Core.Path.{_≡_}
+use mathlib.Core.Bool.{Bool, not, cond}
+use mathlib.Core.List.{List}
+use lib.Dec.{T}
+use lib.ListN.{getD}
+use lib.Ieee.{Float, nan}
+use Rattle.floats.specs.Numbers.{_<ᶠ_, _≤ᶠ_}
+use Rattle.floats.specs.Finite.{finite}
+use Rattle.cusum.specs.declared.Cusum.{Cusum}
+use Rattle.cusum.specs.declared.Side.{Side}
+use Rattle.cusum.specs.declared.Side.the-variants.{Upper, Lower}
+use Rattle.cusum.specs.RunLength.{sumOf, fed}
+
+-- a fresh chart that is fed only the level v first has the side's sum above h at reading n
+pub record FirstHeard (c : Cusum) (v : Float) (side : Side) (n : ℕ) : Type 0 where
+  pub reading : 0 < n
+  pub over : T (c .h <ᶠ sumOf side (fed c v n))
+  pub before : (m : ℕ) → 0 < m → m < n → T (not (c .h <ᶠ sumOf side (fed c v m)))
+
+-- x is at or above the level, and for the lower side at or below it
+abbrev pub beyond : Side → Float → Float → Bool
+beyond Upper v x = v ≤ᶠ x
+beyond Lower v x = x ≤ᶠ v
+
+-- how many of the d readings from p on are finite
+unfoldable pub finites : List Float → ℕ → ℕ → ℕ
+finites xs p zero = 0
+finites xs p (suc d) = cond (finite (getD xs (p + d) nan)) (suc (finites xs p d)) (finites xs p d)
+
+-- the reading at p + d is the nth finite one from p on, and all those up to it are at the level or beyond
+pub record Lasting (side : Side) (v : Float) (xs : List Float) (p d n : ℕ) : Type 0 where
+  pub nth : suc (finites xs p d) ≡ n
+  pub last : T (finite (getD xs (p + d) nan))
+  pub all : (j : ℕ) → j ≤ d → T (finite (getD xs (p + j) nan)) → T (beyond side v (getD xs (p + j) nan))

@@ -1,0 +1,127 @@
+// The tabular CUSUM chart of `cusum.rs`: two sums, of how far the readings lie above the target and
+// below it, in units of sigma and less the allowance k at each reading, never under zero; a reading
+// signals where a sum is above the decision interval h.
+//
+// Every call ends with an answer or a refusal, and asks nothing of its caller: settings are checked
+// when they are used. `specs/Chart` has the recurrences that the records equal, and
+// `proofs/Promise` the promise that a lasting shift is signalled.
+mod listen;
+mod points;
+mod step;
+
+ghost use mathlib.Core.Path.{_≡_};
+ghost use Rattle.cusum.specs.Chart.{newOf, withParams, Analyzed, Marked};
+ghost use Rattle.cusum.specs.RunLength.{heardAs, runLength};
+use charts::Charted;
+use charts::Observation;
+use charts::Signalled;
+use listen::listen;
+use points::mark;
+use refusals::Refusal;
+use step::accepted;
+use step::judge;
+use step::next;
+use step::start;
+
+pub struct Cusum {
+    pub target: f64,
+    pub sigma: f64,
+    pub k: f64,
+    pub h: f64,
+}
+
+// The record of one observation: both sums after it, and whether one is above h.
+pub struct CusumResult {
+    pub s_upper: f64,
+    pub s_lower: f64,
+    pub signal: bool,
+    pub index: Observation,
+}
+
+// What goes from reading to reading: nothing beside the last record.
+pub struct State {
+    pub shown: CusumResult,
+}
+
+// Which of the two sums is asked for.
+pub enum Side {
+    Upper,
+    Lower,
+}
+
+// The answer of `run_length`: the reading at which the sum was first above h, from 1.
+pub enum Heard {
+    At(usize),
+    NotHeard,
+    Refused(Refusal),
+}
+
+impl Cusum {
+    // A chart with the allowance 0.5 and the decision interval 5.
+    pub fn new(target: f64, sigma: f64) -> Cusum
+        ensures { λ r. ⌜ r ≡ newOf target sigma ⌝ }
+    {
+        Cusum {
+            target,
+            sigma,
+            k: 0.5,
+            h: 5.0,
+        }
+    }
+
+    pub fn with_params(target: f64, sigma: f64, k: f64, h: f64) -> Cusum
+        ensures { λ r. ⌜ r ≡ withParams target sigma k h ⌝ }
+    {
+        Cusum {
+            target,
+            sigma,
+            k,
+            h,
+        }
+    }
+
+    // Writes a record for each reading to the front of `records`, and leaves the others; a refusal
+    // changes nothing. Cost: one step for each reading.
+    pub fn analyze(self, data: &[f64], records: &mut [CusumResult]) -> Charted
+        ensures { λ r. ⌜ Analyzed self (now («data» .entry)) (now (records .entry)) r (now (records .exit)) ⌝ }
+    {
+        let answer = judge(self, data.len(), records.len());
+        let n = charts::count(answer);
+        let mut state = start(self);
+        let mut i = 0;
+        while i < n {
+            state = next(self, data, i, state);
+            records[i] = state.shown;
+            i += 1;
+        }
+        answer
+    }
+
+    // Writes the index of each reading that signals to the front of `points`, which needs room for as
+    // many as there are readings, and leaves the others; a refusal changes nothing. Cost: one step
+    // for each reading.
+    pub fn signal_points(self, data: &[f64], points: &mut [usize]) -> Signalled
+        ensures { λ r. ⌜ Marked self (now («data» .entry)) (now (points .entry)) r (now (points .exit)) ⌝ }
+    {
+        let answer = judge(self, data.len(), points.len());
+        let count = mark(self, data, charts::count(answer), points);
+        charts::marked(answer, count)
+    }
+
+    // The first reading, 1 to 4,096, at which a fresh chart that is fed only the level has the asked
+    // sum above h. Cost: one step for each reading up to that one.
+    pub fn run_length(self, level: f64, side: Side) -> Heard
+        ensures { λ r. ⌜ heardAs r ≡ runLength self level side ⌝ }
+    {
+        if accepted(self) {
+            if floats::finite(level) {
+                return listen(self, level, side);
+            }
+            return Heard::Refused(Refusal::NonFinite {
+                channel: 0,
+                index: 0,
+            });
+        }
+        Heard::Refused(Refusal::Chart)
+    }
+}

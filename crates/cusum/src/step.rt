@@ -1,0 +1,78 @@
+// The settings of a chart, and one reading's step.
+ghost use mathlib.Core.Path.{_≡_};
+ghost use Prim.Native.Nat.{_<_};
+ghost use lib.ListN.{length, getD};
+ghost use lib.Ieee.{nan};
+ghost use Rattle.charts.specs.Answers.{admittedAs};
+ghost use Rattle.cusum.specs.Chart.{accepted, stepOf, startState, nextState};
+use crate::Cusum;
+use crate::CusumResult;
+use crate::State;
+use charts::Charted;
+use charts::Observation;
+
+// Whether the settings are in range.
+pub(crate) fn accepted(chart: Cusum) -> bool
+    ensures { λ r. ⌜ r ≡ accepted chart ⌝ }
+{
+    let target = floats::finite(chart.target);
+    let sigma = charts::both(floats::finite(chart.sigma), 0.0 < chart.sigma);
+    let k = charts::both(floats::finite(chart.k), 0.0 <= chart.k);
+    let h = charts::both(floats::finite(chart.h), 0.0 < chart.h);
+    charts::both(charts::both(charts::both(target, sigma), k), h)
+}
+
+// What a call answers, for so many readings and room for so many results.
+pub(crate) fn judge(chart: Cusum, readings: usize, room: usize) -> Charted
+    ensures { λ r. ⌜ r ≡ admittedAs (accepted chart) readings room ⌝ }
+{
+    charts::admitted(accepted(chart), readings, room)
+}
+
+// The record of the reading x, from the sums of the record before it. A gap carries them forward.
+pub(crate) fn step(chart: Cusum, before: CusumResult, index: Observation, x: f64) -> CusumResult
+    ensures { λ r. ⌜ r ≡ stepOf chart before index x ⌝ }
+{
+    if floats::finite(x) {
+        let z = (x - chart.target) / chart.sigma;
+        let s_upper = floats::max(before.s_upper + z - chart.k, 0.0);
+        let s_lower = floats::max(before.s_lower - z - chart.k, 0.0);
+        let signal = charts::either(chart.h < s_upper, chart.h < s_lower);
+        CusumResult {
+            s_upper,
+            s_lower,
+            signal,
+            index,
+        }
+    } else {
+        CusumResult {
+            s_upper: before.s_upper,
+            s_lower: before.s_lower,
+            signal: false,
+            index,
+        }
+    }
+}
+
+// Before the first reading both sums are zero.
+pub(crate) fn start(chart: Cusum) -> State
+    ensures { λ r. ⌜ r ≡ startState chart ⌝ }
+{
+    let shown = CusumResult {
+        s_upper: 0.0,
+        s_lower: 0.0,
+        signal: false,
+        index: Observation(0),
+    };
+    State { shown }
+}
+
+// The state after the reading at i.
+pub(crate) fn next(chart: Cusum, data: &[f64], i: usize, state: State) -> State
+    requires { ⌜ i < length (now «data») ⌝ }
+    ensures { λ r. ⌜ r ≡ nextState chart state i (getD (now («data» .entry)) i nan) ⌝ }
+{
+    let before = state.shown;
+    let after = step(chart, before, Observation(i), data[i]);
+    State { shown: after }
+}

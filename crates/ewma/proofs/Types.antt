@@ -1,0 +1,27 @@
+-- The chart's structs as types of plain data, for the walk. Assumes nothing.
+use denote.Struct.Laws as SL
+use Rattle.charts.proofs.Plain.{Kind, Good, kindOf}
+use Rattle.ewma.proofs.Ewma as C
+use Rattle.ewma.proofs.Ewma.Laws as C′
+use Rattle.ewma.proofs.EwmaResult as R
+use Rattle.ewma.proofs.EwmaResult.Laws as R′
+use Rattle.ewma.proofs.State as S
+use Rattle.ewma.proofs.State.Laws as S′
+
+abbrev pub KC : Kind
+KC = kindOf C.the-row C′.mir (SL.val C.the-type C′.the-laws)
+
+abbrev pub KR : Kind
+KR = kindOf R.the-row R′.mir (SL.val R.the-type R′.the-laws)
+
+abbrev pub KS : Kind
+KS = kindOf S.the-row S′.mir (SL.val S.the-type S′.the-laws)
+
+pub good-c : Good KC
+good-c = record { tells = SL.tells C.the-type C′.the-laws; makes = λ 𝓤 H A W. SL.makes C.the-type C′.the-plain 𝓤 H A; lawful = SL.lawful C.the-type C′.the-laws }
+
+pub good-r : Good KR
+good-r = record { tells = SL.tells R.the-type R′.the-laws; makes = λ 𝓤 H A W. SL.makes R.the-type R′.the-plain 𝓤 H A; lawful = SL.lawful R.the-type R′.the-laws }
+
+pub good-s : Good KS
+good-s = record { tells = SL.tells S.the-type S′.the-laws; makes = λ 𝓤 H A W. SL.makes S.the-type S′.the-plain 𝓤 H A; lawful = SL.lawful S.the-type S′.the-laws }

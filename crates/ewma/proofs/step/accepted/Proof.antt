@@ -1,0 +1,52 @@
+-- `ewma::step::accepted` meets its contract. Assumes nothing.
+use borrow.Author.Needs.{needs}
+use lib.Ieee.{ofBits, ofInt}
+use Rattle.ewma.specs.Chart.{accepted}
+use Rattle.ewma.proofs.step.accepted.Statement.{statement}
+use Rattle.ewma.proofs.step.accepted.Tie as tie
+
+finite-requires : tie.Need-finite-requires
+finite-requires c κs = search needs
+
+finite-requires-2 : tie.Need-finite-requires-2
+finite-requires-2 c κs = search needs
+
+both-requires : tie.Need-both-requires
+both-requires c κs = search needs
+
+both-requires-2 : tie.Need-both-requires-2
+both-requires-2 c κs = search needs
+
+finite-requires-3 : tie.Need-finite-requires-3
+finite-requires-3 c κs = search needs
+
+both-requires-3 : tie.Need-both-requires-3
+both-requires-3 c κs = search needs
+
+both-requires-4 : tie.Need-both-requires-4
+both-requires-4 c κs = search needs
+
+both-requires-5 : tie.Need-both-requires-5
+both-requires-5 c κs = search needs
+
+both-requires-6 : tie.Need-both-requires-6
+both-requires-6 c κs = search needs
+
+returns : tie.Need-returns
+unfolding accepted ofBits ofInt
+returns c = cc
+
+pub accepted-spec : {M : Type 1} → statement M
+accepted-spec =
+    tie.close
+    (tie.spec
+    finite-requires
+    finite-requires-2
+    both-requires
+    both-requires-2
+    finite-requires-3
+    both-requires-3
+    both-requires-4
+    both-requires-5
+    both-requires-6
+    returns)

@@ -1,0 +1,93 @@
+-- The EWMA chart (002): its settings, its limits, one reading's step, the records of a series, and the indices that signal. Definitions only.
+use Prim.Native.Nat.{ℕ, suc, _*_}
+use mathlib.Core.Bool.{Bool, false, _&&_, _||_, cond}
+use mathlib.Core.List.{List}
+use lib.ListN.{length}
+use lib.Ieee.{Float}
+use Rattle.floats.specs.Numbers.{_+ᶠ_, _-ᶠ_, _*ᶠ_, _/ᶠ_, _<ᶠ_, _≤ᶠ_, +0, whole, ratio}
+use Rattle.floats.specs.Finite.{finite}
+use Rattle.elementary.specs.Root.{sqrt}
+use Rattle.elementary.specs.Power.{powi}
+use Rattle.charts.specs.Runs as Runs
+use Rattle.charts.specs.Contracts as Contracts
+use Rattle.charts.specs.declared.Charted.{Charted}
+use Rattle.charts.specs.declared.Signalled.{Signalled}
+use Rattle.charts.specs.declared.Observation.{Observation}
+use Rattle.charts.specs.declared.Place.{Place}
+use Rattle.ewma.specs.declared.Ewma.{Ewma}
+use Rattle.ewma.specs.declared.EwmaResult.{EwmaResult}
+use Rattle.ewma.specs.declared.State.{State}
+
+-- the two constructors; `new` has the defaults lambda 0.2 and L 3
+abbrev pub withParams : Float → Float → Float → Float → Ewma
+withParams target sigma lambda factor = record { target = target; sigma = sigma; lambda = lambda; «l_factor» = factor }
+
+unfoldable pub newOf : Float → Float → Ewma
+newOf target sigma = withParams target sigma (ratio 1 5) (whole 3)
+
+-- target finite; sigma finite and above 0; lambda in (0, 1]; L finite, above 0
+unfoldable pub accepted : Ewma → Bool
+accepted c =
+    finite (c .target) && (finite (c .sigma) && +0 <ᶠ c .sigma) && (+0 <ᶠ c .lambda && c .lambda ≤ᶠ whole 1) && (finite (c .«l_factor») && +0 <ᶠ c .«l_factor»)
+
+-- an index counts from 0, a place from 1
+abbrev pub placeOf : Observation → Place
+placeOf index = record { 0 = suc (index .0) }
+
+-- half the distance of the limits at a place: L·sigma times the root of lambda / (2 - lambda) · (1 - (1 - lambda)^(2·place))
+unfoldable pub halfWidth : Ewma → Place → Float
+halfWidth c place =
+    c .«l_factor» *ᶠ c .sigma *ᶠ sqrt (c .lambda /ᶠ (whole 2 -ᶠ c .lambda) *ᶠ (whole 1 -ᶠ powi (whole 1 -ᶠ c .lambda) (2 * place .0)))
+
+-- the record of a statistic with limits so far from the target
+abbrev pub within : Ewma → Observation → Float → Bool → Float → EwmaResult
+within c index half signal ewma = record { ewma = ewma; ucl = c .target +ᶠ half; lcl = c .target -ᶠ half; signal = signal; index = index }
+
+-- whether a statistic is strictly outside the limits
+abbrev pub outside : Ewma → Float → Float → Bool
+outside c half ewma = (c .target +ᶠ half <ᶠ ewma) || (ewma <ᶠ c .target -ᶠ half)
+
+-- the statistic moves on to a reading: lambda·x + (1 - lambda)·before
+abbrev pub averaged : Ewma → Float → Float → Float
+averaged c before x = c .lambda *ᶠ x +ᶠ (whole 1 -ᶠ c .lambda) *ᶠ before
+
+-- the record of the reading x after another record; a gap carries the statistic forward, without a signal
+unfoldable pub stepOf : Ewma → EwmaResult → Observation → Float → EwmaResult
+stepOf c before index x =
+    let half = halfWidth c (placeOf index) in
+    let ewma = averaged c (before .ewma) x in
+    cond (finite x) (within c index half (outside c half ewma) ewma) (within c index half false (before .ewma))
+
+-- before the first reading the statistic is the target
+abbrev pub fresh : Ewma → EwmaResult
+fresh c = record { ewma = c .target; ucl = c .target; lcl = c .target; signal = false; index = record { 0 = 0 } }
+
+-- the same as states of a run, and the record that a state shows
+abbrev pub shownOf : State → EwmaResult
+shownOf s = s .shown
+
+abbrev pub startState : Ewma → State
+startState c = record { shown = fresh c }
+
+abbrev pub nextState : Ewma → State → ℕ → Float → State
+nextState c s i x = record { shown = stepOf c (s .shown) (record { 0 = i }) x }
+
+-- the record of the reading at i, those of the first n, and the indices among them that signal
+abbrev pub recordAt : Ewma → List Float → ℕ → EwmaResult
+recordAt = Runs.recordAt shownOf startState nextState
+
+abbrev pub records : Ewma → List Float → ℕ → List EwmaResult
+records = Runs.records shownOf startState nextState
+
+abbrev pub signalOf : EwmaResult → Bool
+signalOf r = r .signal
+
+abbrev pub signalling : Ewma → List Float → ℕ → List ℕ
+signalling c xs n = Runs.points shownOf startState nextState c xs signalOf n
+
+-- what `analyze` and `signal_points` answer and leave
+abbrev pub Analyzed : Ewma → List Float → List EwmaResult → Charted → List EwmaResult → Type 0
+Analyzed c xs entry r exit = Contracts.Analyzed (accepted c) (length xs) (records c xs) entry r exit
+
+abbrev pub Marked : Ewma → List Float → List ℕ → Signalled → List ℕ → Type 0
+Marked c xs entry r exit = Contracts.Marked (accepted c) (length xs) (signalling c xs (length xs)) entry r exit

@@ -1,0 +1,29 @@
+// The indices of the readings that signal.
+ghost use Prim.Native.Nat.{_≤_};
+ghost use lib.ListN.{length};
+ghost use Rattle.charts.specs.Contracts.{Stands};
+ghost use Rattle.ewma.specs.Chart.{signalling};
+use crate::Ewma;
+use crate::step::next;
+use crate::step::start;
+
+// Writes those among the first n to the front of `points`, and says how many there are. Cost: n steps.
+pub(crate) fn mark(chart: Ewma, data: &[f64], n: usize, points: &mut [usize]) -> usize
+    requires { ⌜ (n ≤ length (now «data»)) × (n ≤ length (now points)) ⌝ }
+    ensures { λ r. ⌜ Stands (signalling chart (now («data» .entry)) n) (now (points .entry)) r (now (points .exit)) ⌝ }
+{
+    let mut state = start(chart);
+    let mut count = 0;
+    let mut i = 0;
+    while i < n {
+        state = next(chart, data, i, state);
+        let shown = state.shown;
+        let index = i;
+        i += 1;
+        if shown.signal {
+            points[count] = index;
+            count += 1;
+        }
+    }
+    count
+}

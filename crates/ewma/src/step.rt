@@ -1,0 +1,103 @@
+// The settings of a chart, its limits, and one reading's step.
+ghost use mathlib.Core.Path.{_≡_};
+ghost use Prim.Native.Nat.{_≤_, _<_, _^_};
+ghost use lib.ListN.{length, getD};
+ghost use lib.Ieee.{nan};
+ghost use Rattle.charts.specs.Answers.{admittedAs};
+ghost use Rattle.ewma.specs.Chart.{accepted, halfWidth, placeOf, stepOf, startState, nextState};
+use crate::Ewma;
+use crate::EwmaResult;
+use crate::State;
+use charts::Charted;
+use charts::Observation;
+use charts::Place;
+
+// Whether the settings are in range.
+fn accepted(chart: Ewma) -> bool
+    ensures { λ r. ⌜ r ≡ accepted chart ⌝ }
+{
+    let target = floats::finite(chart.target);
+    let sigma = charts::both(floats::finite(chart.sigma), 0.0 < chart.sigma);
+    let lambda = charts::both(0.0 < chart.lambda, chart.lambda <= 1.0);
+    let l_factor = charts::both(floats::finite(chart.l_factor), 0.0 < chart.l_factor);
+    charts::both(charts::both(charts::both(target, sigma), lambda), l_factor)
+}
+
+// What a call answers, for so many readings and room for so many results.
+pub(crate) fn judge(chart: Ewma, readings: usize, room: usize) -> Charted
+    ensures { λ r. ⌜ r ≡ admittedAs (accepted chart) readings room ⌝ }
+{
+    charts::admitted(accepted(chart), readings, room)
+}
+
+// The place of an observation on the chart.
+fn place_of(index: Observation) -> Place
+    requires { ⌜ index .0 < 2 ^ 62 ⌝ }
+    ensures { λ r. ⌜ r ≡ placeOf index ⌝ }
+{
+    Place(index.0 + 1)
+}
+
+// How far the limits lie from the target at a place. Cost: one turn for each binary digit of the place.
+fn control_limit_half_width(chart: Ewma, place: Place) -> f64
+    requires { ⌜ place .0 ≤ 2 ^ 62 ⌝ }
+    ensures { λ r. ⌜ r ≡ halfWidth chart place ⌝ }
+{
+    let asymptotic_var = chart.lambda / (2.0 - chart.lambda);
+    let decay = elementary::powi(1.0 - chart.lambda, (2 * place.0) as u64);
+    let time_varying_var = asymptotic_var * (1.0 - decay);
+    chart.l_factor * chart.sigma * elementary::sqrt(time_varying_var)
+}
+
+// The record of the reading x, from the statistic of the record before it. A gap carries it forward.
+fn step(chart: Ewma, before: EwmaResult, index: Observation, x: f64) -> EwmaResult
+    requires { ⌜ index .0 < 2 ^ 62 ⌝ }
+    ensures { λ r. ⌜ r ≡ stepOf chart before index x ⌝ }
+{
+    let half_width = control_limit_half_width(chart, place_of(index));
+    let ucl = chart.target + half_width;
+    let lcl = chart.target - half_width;
+    if floats::finite(x) {
+        let ewma = chart.lambda * x + (1.0 - chart.lambda) * before.ewma;
+        let signal = charts::either(ucl < ewma, ewma < lcl);
+        EwmaResult {
+            ewma,
+            ucl,
+            lcl,
+            signal,
+            index,
+        }
+    } else {
+        EwmaResult {
+            ewma: before.ewma,
+            ucl,
+            lcl,
+            signal: false,
+            index,
+        }
+    }
+}
+
+// Before the first reading the statistic is the target.
+pub(crate) fn start(chart: Ewma) -> State
+    ensures { λ r. ⌜ r ≡ startState chart ⌝ }
+{
+    let shown = EwmaResult {
+        ewma: chart.target,
+        ucl: chart.target,
+        lcl: chart.target,
+        signal: false,
+        index: Observation(0),
+    };
+    State { shown }
+}
+
+// The state after the reading at i.
+pub(crate) fn next(chart: Ewma, data: &[f64], i: usize, state: State) -> State
+    requires { ⌜ i < length (now «data») ⌝ }
+    ensures { λ r. ⌜ r ≡ nextState chart state i (getD (now («data» .entry)) i nan) ⌝ }
+{
+    let before = state.shown;
+    let after = step(chart, before, Observation(i), data[i]);
+    State { shown: after }
+}
