@@ -5,6 +5,7 @@ use mathlib.Core.Bool.{Bool, true, false, not, cond}
 use mathlib.Core.List.{List, [], _∷_, _++_}
 use native.Mathlib.Omega.{arith}
 use native.Mathlib.Numerals.{add-one}
+use borrow.Author.Tests.{lt-ltb}
 use lib.Dec.{ltb}
 use lib.ListN.{length, getD, set, drop, length-append, length-drop}
 use lib.Ieee.{Float, nan}
@@ -16,7 +17,7 @@ use Rattle.charts.specs.declared.Charted.the-variants as Charted
 use Rattle.charts.specs.declared.Signalled.the-variants as Signalled
 use Rattle.charts.specs.Answers.{signalled, chartAnswer, admittedAs, countOf, signalledAs}
 use Rattle.charts.specs.Runs.{stateAt, records, points, lent}
-use Rattle.charts.specs.Contracts.{Analyzed, Stands, Marked, marks}
+use Rattle.charts.specs.Contracts.{Analyzed, Noted, Stands, Marked, marks}
 use Rattle.charts.proofs.Answers.{admitted-says, within-both}
 use Rattle.charts.proofs.Outcomes.{analyzed-once}
 use Rattle.charts.proofs.Runs.{lent-more, points-few, written, written-lent}
@@ -43,37 +44,31 @@ module _ {C S D : Type 0} (shown : S → D) (start : C → S) (step : C → S �
     pub all-marked : n ≤ i → Stands (points shown start step c xs signals n) entry count l
     all-marked h = let e : n ≡ i = omega (arith, h, m .within) in rw e (m .stands)
 
-    pub marked-few : count ≤ i
-    marked-few = omega (arith, points-few shown start step c xs signals i, m .stands .counted)
-
-    module _ (s' : S) (below : i < n) (next : s' ≡ step c s i (getD xs i nan)) where
+    -- a turn: the reading at i, and its index noted
+    module _ (s' : S) (r : ℕ) (l' : List ℕ) (below : i < n) (next : s' ≡ step c s i (getD xs i nan)) (noted : Noted (signals (shown s')) i count l r l') where
       moves : s' ≡ stateAt shown start step c xs (suc i)
       moves = next ∙ ap (λ (t : S). step c t i (getD xs i nan)) (m .state)
 
-      -- the record of the reading, by what the chart came to
-      tells : (b : Bool) → signals (shown s') ≡ b → signals (shown (stateAt shown start step c xs (suc i))) ≡ b
-      tells b e = ap (λ (t : S). signals (shown t)) (sym moves) ∙ e
+      -- there is room for one index more
+      room-for : ltb count (length l) ≡ true
+      room-for = lt-ltb count (length l) (omega (arith, marked-length, points-few shown start step c xs signals i, m .stands .counted, below))
 
-      pub one-marked : signals (shown s') ≡ true → Marking s' (count + 1) (i + 1) (set l count i)
-      one-marked e =
+      stands-more : (b : Bool) → signals (shown s') ≡ b → let p = points shown start step c xs signals i in Stands (cond b (p ++ (i ∷ [])) p) entry r l'
+      stands-more true e =
           let p = points shown start step c xs signals i in
-          let more : points shown start step c xs signals (suc i) ≡ p ++ (i ∷ []) = ap (λ (b : Bool). cond b (p ++ (i ∷ [])) p) (tells true e) in
           record {
-            within = omega (arith, below);
-            state = rw add-one moves;
-            stands =
-                rw (add-one i, more)
-                (record {
-                  counted = ap (λ (k : ℕ). k + 1) (m .stands .counted) ∙ sym (length-append p (i ∷ []));
-                  written = ap (λ (t : List ℕ). set t count i) (m .stands .written) ∙ lent-more p entry i 0 count (sym (m .stands .counted)) (omega (arith, marked-few, below));
-                });
+            counted = rw (e, room-for) at (noted .counted) ∙ ap (λ (k : ℕ). k + 1) (m .stands .counted) ∙ sym (length-append p (i ∷ []));
+            written =
+                rw (e, room-for) at (noted .written)
+                ∙ ap (λ (t : List ℕ). set t count i) (m .stands .written)
+                ∙ lent-more p entry i 0 count (sym (m .stands .counted)) (omega (arith, points-few shown start step c xs signals i, m .stands .counted, below));
           }
+      stands-more false e = record { counted = rw e at (noted .counted) ∙ m .stands .counted; written = rw e at (noted .written) ∙ m .stands .written }
 
-      pub none-more : signals (shown s') ≡ false → Marking s' count (i + 1) l
-      none-more e =
-          let p = points shown start step c xs signals i in
-          let same : points shown start step c xs signals (suc i) ≡ p = ap (λ (b : Bool). cond b (p ++ (i ∷ [])) p) (tells false e) in
-          record { within = omega (arith, below); state = rw add-one moves; stands = rw (add-one i, same) (m .stands) }
+      pub one-more : Marking s' r (i + 1) l'
+      one-more =
+          let tells : signals (shown s') ≡ signals (shown (stateAt shown start step c xs (suc i))) = ap (λ (t : S). signals (shown t)) moves in
+          record { within = omega (arith, below); state = rw add-one moves; stands = rw add-one (stands-more (signals (shown (stateAt shown start step c xs (suc i)))) tells) }
 
 -- the answer of `analyze` by the three tests, and what is said of a result by them
 abbrev by-tests : ℕ → Bool → Bool → Bool → Charted

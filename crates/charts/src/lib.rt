@@ -6,6 +6,7 @@
 ghost use mathlib.Core.Path.{_≡_};
 ghost use mathlib.Core.Bool.{_&&_, _||_};
 ghost use Rattle.charts.specs.Answers.{admittedAs, countOf, signalledAs};
+ghost use Rattle.charts.specs.Contracts.{Noted};
 use refusals::Refusal;
 
 // The index of an observation in its series, from 0.
@@ -56,6 +57,20 @@ pub fn marked(answer: Charted, points: usize) -> Signalled
         Charted::Records(_) => Signalled::Points(points),
         Charted::Refused(refusal) => Signalled::Refused(refusal),
     }
+}
+
+// Writes the index at `count` where the reading signals and there is room, and says how many indices
+// stand in front then.
+pub fn note(signal: bool, index: usize, count: usize, points: &mut [usize]) -> usize
+    ensures { λ r. ⌜ Noted signal index count (now (points .entry)) r (now (points .exit)) ⌝ }
+{
+    if signal {
+        if count < points.len() {
+            points[count] = index;
+            return count + 1;
+        }
+    }
+    count
 }
 
 // The answer for so many readings with room for so many results, by settings that are accepted or not.

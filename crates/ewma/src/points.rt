@@ -18,12 +18,8 @@ pub(crate) fn mark(chart: Ewma, data: &[f64], n: usize, points: &mut [usize]) ->
     while i < n {
         state = next(chart, data, i, state);
         let shown = state.shown;
-        let index = i;
+        count = charts::note(shown.signal, i, count, points);
         i += 1;
-        if shown.signal {
-            points[count] = index;
-            count += 1;
-        }
     }
     count
 }
