@@ -5,3 +5,4 @@ pub mod Outcomes
 pub mod Loops
 pub mod ChartedKind
 pub mod Walk
+pub mod ByValue

@@ -1,0 +1,56 @@
+-- `replay_cusum::lend::lend_two` is safe and ends: the walk of `charts`, `proofs/ByValue`, at CUSUM's types and 2 records. Assumes nothing.
+use mathlib.Core.Path.{refl, _∙_}
+use mathlib.Core.List.{List, [], _∷_, map}
+use lib.Dec.{lit<}
+use lib.ListN.{length-map}
+use mir.Syntax.{tnil}
+use mir.Val.{vstruct, vcons, vnil}
+use denote.Laws.{Is}
+use denote.Array.{Array, arrayVal}
+use contract.Running.{givenOf, tables, tablesOf}
+use denote.Struct.Laws as SL
+use denote.Triple.Spec.{tripleOf}
+use denote.Triple.Table.{entered, cited}
+use Rattle.charts.specs.Answers.{countOf}
+use Rattle.charts.specs.declared.Charted.{Charted}
+use Rattle.charts.proofs.Plain.{Kind, Good, kindOf, rowOf, vals}
+use Rattle.charts.proofs.Loops.{analyzed-is}
+use Rattle.charts.proofs.ChartedKind.{KV, good-v}
+use Rattle.charts.proofs.ByValue.{meets, Analyze}
+use Rattle.cusum.specs.Chart.{accepted, shownOf, startState, nextState, Analyzed}
+use Rattle.cusum.specs.declared.CusumResult.{CusumResult}
+use Rattle.cusum.proofs.CusumResult as R
+use Rattle.cusum.proofs.State as S
+use Rattle.cusum.proofs.Types.{KC, KR, KS, good-c, good-r}
+use Rattle.cusum.proofs.Cusum.analyze.Symbol as analyze-def
+use Rattle.cusum.proofs.Cusum.analyze.Met as analyze-thm
+use Rattle.replay_cusum.specs.declared.lend.LentTwo.{LentTwo}
+use Rattle.replay_cusum.proofs.lend.Lending.{judgeOf, as-field}
+use Rattle.replay_cusum.proofs.lend.LentTwo as L
+use Rattle.replay_cusum.proofs.lend.LentTwo.Laws as L′
+use Rattle.replay_cusum.proofs.lend.lend_two.Key.{name as #lend-two}
+use Rattle.replay_cusum.proofs.lend.lend_two as lend-two
+use Rattle.replay_cusum.proofs.lend.lend_two.Statement as stated
+use Rattle.replay_cusum.proofs.lend.lend_two.Code as code
+
+abbrev KL : Kind
+KL = kindOf L.the-row L′.mir (SL.val L.the-type L′.the-laws)
+
+good-l : Good KL
+good-l = record { tells = SL.tells L.the-type L′.the-laws; makes = λ 𝓤 H A W. SL.makes L.the-type L′.the-plain 𝓤 H A; lawful = SL.lawful L.the-type L′.the-laws }
+
+abbrev mk : Charted → List CusumResult → LentTwo
+mk v ys = record { answer = v; records = ys }
+
+owes : (v : Charted) (ys : List CusumResult) → Is (rowOf KV) v (vals KV v) → Is (Array (rowOf KR) 2) ys (arrayVal (map (λ y. KR .val y) ys) ∷ [])
+    → Is (rowOf KL) (mk v ys) (vstruct (vcons (KV .val v) (vcons (arrayVal (map (λ y. KR .val y) ys)) vnil)) ∷ [])
+owes v ys is is′ = ((vals KV v, (arrayVal (map (λ y. KR .val y) ys) ∷ [], tt)), (refl, (is, ((is′ .0, ((is′ .1 .0 .0, length-map ys (R.the-field .into) ∙ is′ .1 .0 .1), as-field ys (is′ .0) (is′ .1 .1))), tt))))
+
+pub lend-two-spec : {M : Type 1} → stated.statement M
+unfolding code.routine tablesOf
+lend-two-spec 𝓤 H 𝓜 𝓖 𝓡 =
+    entered 𝓤 H (tripleOf 𝓤 H (𝓖 .A) lend-two.signature (lend-two.spec 𝓤 H (𝓖 .A) (𝓜 .mem) (𝓡 .run)))
+    (tables 𝓤 H 𝓜 𝓡 code.env .C) (tables 𝓤 H 𝓜 𝓡 code.env .Λ) #lend-two code.function (code.unfolded 𝓤 H 𝓜 𝓡)
+    (meets KC KR KV KS KL (S.struct .name) tnil 2 𝓤 judgeOf countOf shownOf startState nextState Analyzed H (𝓖 .A) good-c good-r good-v good-l (analyzed-is shownOf startState nextState accepted) mk owes (lit< tt, lit< tt)
+    (givenOf 𝓤 H 𝓜 𝓖) analyze-def.name (tablesOf 𝓤 H 𝓜 (tables 𝓤 H 𝓜 𝓡 code.env))
+    (cited 𝓤 H (Analyze KC KR KV KS KL (S.struct .name) tnil 2 𝓤 judgeOf countOf shownOf startState nextState Analyzed H (𝓖 .A)) 𝓜 𝓡 code.env analyze-def.name analyze-def.routine code.calls-cusum·Cusum·analyze (analyze-thm.met 𝓤 H 𝓜 𝓖 𝓡)))

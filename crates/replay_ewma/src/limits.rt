@@ -1,0 +1,47 @@
+// Calls that the Rust can't show: more readings than a chart takes, or too little room, or both, and each
+// with settings that are out of range, which is refused first. A refusal changes nothing that is lent.
+use crate::lend::lend_two;
+use crate::records::match_unused;
+use crate::records::replay_answers;
+use crate::records::unused;
+use ewma::Ewma;
+use replay::Progress;
+use replay::What;
+
+// Compares a refusal of this number, with room for two results.
+fn refused_two(progress: Progress, chart: Ewma, data: &[f64], refusal: u64) -> Progress {
+    let mut points = [replay::UNUSED; 2];
+    let signalled = chart.signal_points(data, &mut points);
+    let lent = lend_two(chart, data, [unused(); 2]);
+    let charted = lent.answer;
+    let records = lent.records;
+    let marked = replay::match_signalled(progress, signalled, refusal, 0);
+    let answered = replay::match_charted(marked, charted, refusal, 0).counted(What::Limit);
+    let first = match_unused(answered, 0, records[0]);
+    let second = match_unused(first, 1, records[1]);
+    let third = replay::compare_point(second, 0, points[0], false);
+    replay::compare_point(third, 1, points[1], false)
+}
+
+// Compares an answer for as many readings as there is room for.
+fn answered_two(progress: Progress, chart: Ewma, data: &[f64], signals: usize) -> Progress {
+    let mut points = [replay::UNUSED; 2];
+    let signalled = chart.signal_points(data, &mut points);
+    let lent = lend_two(chart, data, [unused(); 2]);
+    let charted = lent.answer;
+    let marked = replay::match_signalled(progress, signalled, 0, signals);
+    replay::match_charted(marked, charted, 0, 2).counted(What::Limit)
+}
+
+pub(crate) fn limits(mut progress: Progress) -> Progress {
+    let chart = Ewma::new(0.0, 1.0);
+    let refused = Ewma::new(0.0, -1.0);
+    let long = [3.0; 4097];
+    progress = replay_answers(progress, chart, &long, 6, What::Limit);
+    progress = replay_answers(progress, refused, &long, 11, What::Limit);
+    progress = refused_two(progress, chart, &long, 6);
+    progress = refused_two(progress, refused, &long, 11);
+    progress = refused_two(progress, chart, &[3.0, 3.0, 3.0], 7);
+    progress = refused_two(progress, refused, &[3.0, 3.0, 3.0], 11);
+    answered_two(progress, chart, &[9.0, 9.0], 2)
+}
