@@ -193,7 +193,7 @@ fn mixed_ewma(random: &mut Random) -> Settings {
     Settings::with([target, sigma, weight, pick(random, &SIZES)])
 }
 
-/// Settings of which one is out of range, for a chart whose others are these.
+/// Settings of which one is out of range, or at the end of it, where the others are these.
 pub fn refused(usual: [f64; 4]) -> Vec<Settings> {
     let never = [f64::NAN, f64::INFINITY, f64::NEG_INFINITY];
     let signed = [0.0, -0.0, -5e-324, -1.0, 1.0 + f64::EPSILON, 2.0];
@@ -265,12 +265,13 @@ fn gaps(random: &mut Random, centre: f64, scale: f64, count: usize) -> Vec<f64> 
 }
 
 fn infinities(random: &mut Random, centre: f64, scale: f64, count: usize) -> Vec<f64> {
-    let reading = |x| match random.below(4) {
-        0 => either_sign(random, f64::INFINITY),
-        _ => x,
-    };
-    let readings = halves(&mut Random::new(), centre, scale, count);
-    readings.into_iter().map(reading).collect()
+    let mut readings = halves(random, centre, scale, count);
+    for reading in &mut readings {
+        if random.below(4) == 0 {
+            *reading = either_sign(random, f64::INFINITY);
+        }
+    }
+    readings
 }
 
 fn any_values(random: &mut Random, _: f64, _: f64, count: usize) -> Vec<f64> {

@@ -102,8 +102,13 @@ impl Progress {
         self
     }
 
-    // The case is not whole.
+    // The case is not whole. It says so, once.
     pub fn stopped(mut self) -> Progress {
+        if self.whole {
+            print(b"case ");
+            print_count(self.begun);
+            print(b" ends too early, or is of no known form\n");
+        }
         self.whole = false;
         self
     }
@@ -152,13 +157,6 @@ impl Progress {
         let points = self.points;
         let kept = self.kept;
         let limits = self.limits;
-        if self.whole {
-            print(b"all cases are whole\n");
-        } else {
-            print(b"case ");
-            print_count(self.begun);
-            print(b" ends too early, or is of no known form\n");
-        }
         series.report(b" series, ");
         records.report(b" records, ");
         points.report(b" points, ");

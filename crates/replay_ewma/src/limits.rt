@@ -1,5 +1,6 @@
 // Calls that the Rust can't show: more readings than a chart takes, or too little room, or both, and each
 // with settings that are out of range, which is refused first. A refusal changes nothing that is lent.
+// Their numbers go on from those of the stored cases.
 use crate::lend::lend_two;
 use crate::records::match_unused;
 use crate::records::replay_answers;
@@ -37,11 +38,11 @@ pub(crate) fn limits(mut progress: Progress) -> Progress {
     let chart = Ewma::new(0.0, 1.0);
     let refused = Ewma::new(0.0, -1.0);
     let long = [3.0; 4097];
-    progress = replay_answers(progress, chart, &long, 6, What::Limit);
-    progress = replay_answers(progress, refused, &long, 11, What::Limit);
-    progress = refused_two(progress, chart, &long, 6);
-    progress = refused_two(progress, refused, &long, 11);
-    progress = refused_two(progress, chart, &[3.0, 3.0, 3.0], 7);
-    progress = refused_two(progress, refused, &[3.0, 3.0, 3.0], 11);
-    answered_two(progress, chart, &[9.0, 9.0], 2)
+    progress = replay_answers(progress.begun(), chart, &long, 6, What::Limit);
+    progress = replay_answers(progress.begun(), refused, &long, 11, What::Limit);
+    progress = refused_two(progress.begun(), chart, &long, 6);
+    progress = refused_two(progress.begun(), refused, &long, 11);
+    progress = refused_two(progress.begun(), chart, &[3.0, 3.0, 3.0], 7);
+    progress = refused_two(progress.begun(), refused, &[3.0, 3.0, 3.0], 11);
+    answered_two(progress.begun(), chart, &[9.0, 9.0], 2)
 }
