@@ -1,0 +1,31 @@
+// What a segment of a channel costs, and the penalty of a change.
+//
+// No function asks anything of its caller. Each result is, to the bit, that of the definition which
+// its contract names: `specs/Costs` for a segment, `specs/Penalties` for the penalty.
+mod penalties;
+mod segments;
+
+pub use penalties::resolve_penalty;
+pub use segments::l2_cost;
+pub use segments::normal_cost;
+pub use segments::segment_cost;
+
+// How a segment is priced: by its squares about its mean, or by the logarithm of its variance.
+pub enum CostFunction {
+    L2,
+    Normal,
+}
+
+// The penalty of a change: by the Bayesian criterion, or a value for each channel.
+pub enum Penalty {
+    Bic,
+    Custom(f64),
+}
+
+// What a cost is of: the number of readings, and their sum and that of their squares, each less the
+// channel's mean.
+pub struct Segment {
+    pub length: f64,
+    pub sum: f64,
+    pub sum_of_squares: f64,
+}

@@ -1,0 +1,21 @@
+-- A segment from the sums before and after it, and a summary from its segment. Assumes nothing.
+use Prim.Native.Nat.{ℕ, _-_}
+use mathlib.Core.Path.{_≡_}
+use mathlib.Core.List.{List}
+use lib.Ieee.{Float}
+use Rattle.floats.specs.Numbers.{_+ᶠ_, _-ᶠ_, _/ᶠ_, whole}
+use Rattle.sums.specs.Sums.{meanOf}
+use Rattle.costs.specs.Costs.{segmentAbout, segmentOf, l2Cost}
+use Rattle.costs.specs.declared.Segment.{Segment}
+use Rattle.piece.specs.declared.Running.{Running}
+use Rattle.piece.specs.Piece.{runningAt, summaryOf}
+
+pub segment-between : (xs : List Float) (mean : Float) (a b : ℕ) (x y : Running) (l : Float) → x ≡ runningAt xs mean a → y ≡ runningAt xs mean b → l ≡ whole (b - a)
+    → record { length = l; sum = y .sum -ᶠ x .sum; «sum_of_squares» = y .«sum_of_squares» -ᶠ x .«sum_of_squares» } ≡ segmentAbout xs mean a b
+unfolding segmentAbout runningAt
+segment-between xs mean a b x y l e f g = rw (e, f, g)
+
+pub summary-from : (xs : List Float) (a b : ℕ) (m q : Float) (s : Segment) → m ≡ meanOf xs → s ≡ segmentAbout xs m a b → q ≡ l2Cost s
+    → record { length = b - a; mean = s .sum /ᶠ s .length +ᶠ m; spread = q /ᶠ s .length } ≡ summaryOf xs a b
+unfolding summaryOf segmentOf
+summary-from xs a b m q s e f g = rw (g, f, e)

@@ -1,0 +1,61 @@
+// The summary of a piece of one channel: how many readings, their mean, and how far they spread.
+//
+// Every call ends with a summary or refusal 6 or 12, and asks nothing of its caller. `specs/Piece`
+// has the definition that the answer equals; mean and cost are those of the search. It needs no lent
+// room.
+mod segment_of;
+
+ghost use mathlib.Core.Path.{_≡_};
+ghost use Prim.Native.Nat.{_<_, _≤_};
+ghost use lib.ListN.{length};
+ghost use Rattle.piece.specs.Piece.{summaryOf, summarisedAs};
+use costs::l2_cost;
+use refusals::Refusal;
+use segment_of::segment_of;
+use sums::mean;
+
+pub struct PieceSummary {
+    pub length: usize,
+    pub mean: f64,
+    pub spread: f64,
+}
+
+pub enum Summarised {
+    Piece(PieceSummary),
+    Refused(Refusal),
+}
+
+// The sums of some first readings of a channel, and of their squares, each less the channel's mean.
+pub struct Running {
+    pub sum: f64,
+    pub sum_of_squares: f64,
+}
+
+fn summarise(channel: &[f64], start: usize, end: usize) -> PieceSummary
+    requires { ⌜ (start < end) × (end ≤ length (now channel)) ⌝ }
+    ensures { λ r. ⌜ r ≡ summaryOf (now (channel .entry)) start end ⌝ }
+{
+    let centre = mean(channel);
+    let segment = segment_of(channel, centre, start, end);
+    PieceSummary {
+        length: end - start,
+        mean: segment.sum / segment.length + centre,
+        spread: l2_cost(segment) / segment.length,
+    }
+}
+
+// Of the readings from start up to end, without end. Cost: one pass over the channel for its mean, and
+// one up to end.
+pub fn summary(channel: &[f64], start: usize, end: usize) -> Summarised
+    ensures { λ r. ⌜ r ≡ summarisedAs (now (channel .entry)) start end ⌝ }
+{
+    if 4096 < channel.len() {
+        return Summarised::Refused(Refusal::TooLong);
+    }
+    if start < end {
+        if end <= channel.len() {
+            return Summarised::Piece(summarise(channel, start, end));
+        }
+    }
+    Summarised::Refused(Refusal::Piece)
+}

@@ -1,0 +1,5 @@
+pub mod PartLaws
+pub mod LengthLaws
+pub mod GapLaws
+pub mod ChannelLaws
+pub mod Examples

@@ -1,0 +1,4 @@
+pub mod Parts
+pub mod Shape
+pub mod Gaps
+pub mod Channels

@@ -1,0 +1,19 @@
+// The flat run of readings and its list of channel lengths: what refusals 3, 4, 5, 6 and 8 ask of
+// them, and a channel as a part of the run.
+//
+// No function asks anything of its caller. Lengths are added exactly: a list whose sum only fits
+// after it wrapped is refused.
+mod gaps;
+mod lengths;
+mod parts;
+
+pub use gaps::first_gap;
+pub use lengths::shape;
+pub use parts::channel;
+use refusals::Refusal;
+
+// What the lengths say of a run: so many channels of so many readings each, or a refusal.
+pub enum Shaped {
+    Channels { count: usize, length: usize },
+    Refused(Refusal),
+}

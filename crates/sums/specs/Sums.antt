@@ -1,0 +1,48 @@
+-- The mean of a channel, and the running sums of its readings less that mean and of their squares. Definitions only.
+use Prim.Native.Nat.{ℕ, zero, suc, _+_, _*_}
+use mathlib.Core.Path.{_≡_}
+use mathlib.Core.Bool.{Bool, true, false}
+use mathlib.Core.List.{List}
+use lib.Dec.{leb}
+use lib.ListN.{length, getD}
+use lib.Ieee.{Float, nan}
+use Rattle.floats.specs.Numbers.{_+ᶠ_, _-ᶠ_, _*ᶠ_, _/ᶠ_, +0, whole}
+use Rattle.readings.specs.Parts.{part, tab, Frame}
+
+-- the sum of the first i readings, from index 0 up
+unfoldable pub sumTo : List Float → ℕ → Float
+sumTo xs zero = +0
+sumTo xs (suc i) = sumTo xs i +ᶠ getD xs i nan
+
+-- the sum of all over their number
+unfoldable pub meanOf : List Float → Float
+meanOf xs = sumTo xs (length xs) /ᶠ whole (length xs)
+
+-- reading i less the mean
+unfoldable pub centred : List Float → Float → ℕ → Float
+centred xs mean i = getD xs i nan -ᶠ mean
+
+-- the sum of the first i readings less the mean, from index 0 up
+unfoldable pub centredTo : List Float → Float → ℕ → Float
+centredTo xs mean zero = +0
+centredTo xs mean (suc i) = centredTo xs mean i +ᶠ centred xs mean i
+
+-- the sum of their squares
+unfoldable pub squaresTo : List Float → Float → ℕ → Float
+squaresTo xs mean zero = +0
+squaresTo xs mean (suc i) = squaresTo xs mean i +ᶠ centred xs mean i *ᶠ centred xs mean i
+
+-- an area of so many places has two runs of n + 1 from a place on
+unfoldable pub twoRuns : ℕ → ℕ → ℕ → Bool
+twoRuns size n place = leb (place + 2 * (n + 1)) size
+
+-- the area holds the sums of 0 to n readings from a place on, those of the squares after them, and is otherwise unchanged
+pub record Summed (xs : List Float) (mean : Float) (n : ℕ) (before after : List Float) (place : ℕ) : Type 0 where
+  pub sums : part after place (n + 1) ≡ tab (centredTo xs mean) (n + 1)
+  pub squares : part after (place + (n + 1)) (n + 1) ≡ tab (squaresTo xs mean) (n + 1)
+  pub frame : Frame before after place (2 * (n + 1))
+
+-- what `cumulative_sums` leaves: that where there is room, and the area as it was where there is none
+pub record Ran (xs : List Float) (mean : Float) (before after : List Float) (place : ℕ) : Type 0 where
+  pub written : twoRuns (length before) (length xs) place ≡ true → Summed xs mean (length xs) before after place
+  pub unchanged : twoRuns (length before) (length xs) place ≡ false → after ≡ before

@@ -1,0 +1,20 @@
+// Sums over one channel: its mean, the running sums of its readings less that mean and of their
+// squares, and its range.
+//
+// No function asks anything of its caller. Each result is, to the bit, that of the definition which
+// its contract names; NaN and infinities flow through as IEEE 754 says. `specs/Sums` and
+// `specs/Extremes` have the definitions.
+mod extremes;
+mod running;
+mod total;
+
+pub use extremes::range_about;
+pub use extremes::range_of;
+pub use running::cumulative_sums;
+pub use total::mean;
+
+// The lowest and the highest of some readings.
+pub struct Range {
+    pub lo: f64,
+    pub hi: f64,
+}
