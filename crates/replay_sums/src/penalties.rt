@@ -1,0 +1,35 @@
+// Comparing a penalty with the stored one.
+use costs::CostFunction;
+use costs::Penalty;
+use costs::resolve_penalty;
+use floats::from_bits;
+use floats::to_bits;
+use replay::Progress;
+use replay::What;
+use replay::next_block;
+use replay::number;
+
+// The penalty whose first 33 bytes are these.
+pub(crate) fn replay_penalty(progress: Progress, bytes: &[u8; 33]) -> Progress {
+    let block = next_block(12);
+    let rest = block.bytes;
+    if !block.whole {
+        return progress.stopped();
+    }
+    let custom = Penalty::Custom(from_bits(number(bytes, 1, 8)));
+    let noise = from_bits(number(bytes, 9, 8));
+    let n = number(&rest, 0, 2) as usize;
+    let channels = number(&rest, 2, 2) as usize;
+    let l2 = resolve_penalty(Penalty::Bic, CostFunction::L2, n, channels, noise);
+    let normal = resolve_penalty(Penalty::Bic, CostFunction::Normal, n, channels, noise);
+    let own = resolve_penalty(custom, CostFunction::L2, n, channels, noise);
+    let first = progress.matched(b"penalty of L2", n, number(bytes, 17, 8), to_bits(l2));
+    let second = first.matched(
+        b"penalty of Normal",
+        n,
+        number(bytes, 25, 8),
+        to_bits(normal),
+    );
+    let third = second.matched(b"custom penalty", n, number(&rest, 4, 8), to_bits(own));
+    third.counted(What::Limit)
+}

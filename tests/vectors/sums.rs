@@ -1,0 +1,140 @@
+//! Writes stored answers of the Rust's sums, ranges and L2 costs, of the piece summaries that follow
+//! from them, and of Normal costs and penalties by document 01's logarithm. The crate `replay_sums`
+//! has them as its standard input:
+//!
+//!     mkdir -p target
+//!     cat "$U_ANALYTICS/src/detection/pelt.rs" tests/vectors/pelt_opened.rs > target/pelt_opened.rs
+//!     rustc --edition 2021 -O --crate-type rlib --crate-name pelt_opened \
+//!         -o target/libpelt_opened.rlib target/pelt_opened.rs
+//!     rustc --edition 2021 -O --extern pelt_opened=target/libpelt_opened.rlib \
+//!         tests/vectors/sums.rs -o target/vectors_sums
+//!     target/vectors_sums > crates/replay_sums/stdin
+//!
+//! U_ANALYTICS is a checkout of iyulab/u-analytics at commit 4f64bede7f.
+//!
+//! Numbers have their highest byte first, and values are bit patterns, every NaN as
+//! 7ff8000000000000. A case begins with 33 bytes: a letter and four values.
+//!
+//! `s`, a piece: its mean, its spread, its L2 cost and its Normal cost. Then the channel: the number of
+//! readings in 2 bytes, 8 bytes for each, and a byte that is 0, or 12 where the piece is refused and
+//! the values are 0. Then 28 bytes: start and end, 2 bytes each, and the channel's mean and range about
+//! it, in which a zero has no sign. Then 32 bytes: the running sums at start and end, and those of the
+//! squares.
+//!
+//! `q`, a penalty: a custom value, the sum of the noise variances, and the penalty by BIC for L2 and for
+//! Normal. Then 12 bytes: n and the channels, 2 bytes each, and the custom penalty.
+//!
+//! `e` ends the cases.
+
+#[allow(dead_code)]
+mod inputs;
+#[allow(dead_code)]
+mod rules;
+#[allow(dead_code)]
+mod series;
+
+use inputs::Random;
+use series::SERIES_KINDS;
+use std::io::{self, BufWriter, Write};
+
+/// The number of the refusal of a piece.
+const PIECE: u8 = 12;
+
+fn write_values(out: &mut impl Write, values: &[f64]) -> io::Result<()> {
+    let mut patterns = values.iter().map(|&x| rules::pattern(x).to_be_bytes());
+    patterns.try_for_each(|p| out.write_all(&p))
+}
+
+fn write_short(out: &mut impl Write, n: usize) -> io::Result<()> {
+    let short = u16::try_from(n).expect("a number of 2 bytes");
+    out.write_all(&short.to_be_bytes())
+}
+
+/// The Normal cost of a segment, from its L2 cost, with the logarithm of document 01.
+fn normal_cost(l2: f64, length: f64) -> f64 {
+    let variance = l2 / length;
+    match variance <= 0.0 {
+        true => length * rules::ln(f64::MIN_POSITIVE),
+        false => length * rules::ln(variance),
+    }
+}
+
+fn write_piece(out: &mut impl Write, readings: &[f64], start: usize, end: usize) -> io::Result<()> {
+    let (sums, squares, mean) = pelt_opened::opened_sums(readings);
+    let (lo, hi) = pelt_opened::opened_range(readings);
+    let accepted = start < end && end <= readings.len();
+    let (mut values, mut running) = ([0.0; 4], [0.0; 4]);
+    if accepted {
+        let length = (end - start) as f64;
+        let l2 = pelt_opened::opened_l2(readings, start, end);
+        let centred = (sums[end] - sums[start]) / length;
+        values = [centred + mean, l2 / length, l2, normal_cost(l2, length)];
+        running = [sums[start], sums[end], squares[start], squares[end]];
+    }
+    out.write_all(b"s")?;
+    write_values(out, &values)?;
+    write_short(out, readings.len())?;
+    let mut patterns = readings.iter().map(|x| x.to_bits().to_be_bytes());
+    patterns.try_for_each(|p| out.write_all(&p))?;
+    out.write_all(&[if accepted { 0 } else { PIECE }])?;
+    write_short(out, start)?;
+    write_short(out, end)?;
+    write_values(out, &[mean + 0.0, lo + 0.0, hi + 0.0])?;
+    write_values(out, &running)
+}
+
+/// All pieces of short channels, refused ones among them, and some of longer ones.
+fn write_pieces(out: &mut impl Write, random: &mut Random) -> io::Result<usize> {
+    let mut pieces = 0;
+    for kind in SERIES_KINDS {
+        for scale in [1.0, 1e-300, 1e200] {
+            for count in 0..5 {
+                let readings = kind(random, 2.0, scale, count);
+                for at in 0..(count + 2) * (count + 2) {
+                    write_piece(out, &readings, at / (count + 2), at % (count + 2))?;
+                    pieces += 1;
+                }
+            }
+            for most in [40, 40, 400] {
+                let count = 2 + random.below(most) as usize;
+                let readings = kind(random, 2.0, scale, count);
+                let start = random.below(count as u64) as usize;
+                let length = 1 + random.below((count - start) as u64) as usize;
+                write_piece(out, &readings, start, start + length)?;
+                pieces += 1;
+            }
+        }
+    }
+    write_piece(out, &SERIES_KINDS[1](random, 5.0, 1.0, 4096), 1, 4096)?;
+    Ok(pieces + 1)
+}
+
+fn write_penalties(out: &mut impl Write, random: &mut Random) -> io::Result<usize> {
+    let mut penalties = 0;
+    for n in [0, 1, 2, 3, 4, 100, 1000, 4095, 4096] {
+        for channels in 0..=8 {
+            for noise in [0.0, 1.5, 1e300, f64::INFINITY, f64::NAN] {
+                let value = f64::from_bits(random.next());
+                let (logarithm, count) = (rules::ln(n as f64), channels as f64);
+                out.write_all(b"q")?;
+                let bic = [1.0 * logarithm * noise, 2.0 * logarithm * count];
+                write_values(out, &[value, noise, bic[0], bic[1]])?;
+                write_short(out, n)?;
+                write_short(out, channels)?;
+                write_values(out, &[value * count])?;
+                penalties += 1;
+            }
+        }
+    }
+    Ok(penalties)
+}
+
+fn main() -> io::Result<()> {
+    let mut out = BufWriter::new(io::stdout().lock());
+    let mut random = Random::new();
+    let pieces = write_pieces(&mut out, &mut random)?;
+    let penalties = write_penalties(&mut out, &mut random)?;
+    out.write_all(&[&b"e"[..], &[0; 32]].concat())?;
+    eprintln!("{pieces} pieces, {penalties} penalties");
+    out.flush()
+}
