@@ -7,6 +7,7 @@ mod gaps;
 mod lengths;
 mod parts;
 
+pub use gaps::all_finite;
 pub use gaps::first_gap;
 pub use lengths::shape;
 pub use parts::channel;
@@ -15,5 +16,11 @@ use refusals::Refusal;
 // What the lengths say of a run: so many channels of so many readings each, or a refusal.
 pub enum Shaped {
     Channels { count: usize, length: usize },
+    Refused(Refusal),
+}
+
+// Whether all readings are finite; if not, refusal 8 with the place of the first that is not.
+pub enum Checked {
+    Finite,
     Refused(Refusal),
 }
