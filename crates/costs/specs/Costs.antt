@@ -1,10 +1,11 @@
--- The cost of a segment of one channel. Definitions only.
-use Prim.Native.Nat.{ℕ, _-_, _^_}
+-- The cost of a segment, in one channel and added over the channels. Definitions only.
+use Prim.Native.Nat.{ℕ, zero, suc, _-_, _^_}
 use mathlib.Core.Bool.{cond}
 use mathlib.Core.List.{List}
 use lib.Ieee.{Float}
-use Rattle.floats.specs.Numbers.{_-ᶠ_, _*ᶠ_, _/ᶠ_, _≤ᶠ_, +0, whole, ratio}
+use Rattle.floats.specs.Numbers.{_+ᶠ_, _-ᶠ_, _*ᶠ_, _/ᶠ_, _≤ᶠ_, +0, whole, ratio}
 use Rattle.elementary.specs.Logarithm.{ln}
+use Rattle.readings.specs.Channels.{channelOf}
 use Rattle.sums.specs.Sums.{meanOf, centredTo, squaresTo}
 use Rattle.costs.specs.declared.CostFunction.{CostFunction}
 use Rattle.costs.specs.declared.CostFunction.the-variants as CostFunction
@@ -37,3 +38,8 @@ normalCost s =
 unfoldable pub costOf : CostFunction → Segment → Float
 costOf CostFunction.L2 s = l2Cost s
 costOf CostFunction.Normal s = normalCost s
+
+-- channel costs add in channel order, from +0: those of the first channels of a run, of n readings each
+unfoldable pub costTo : CostFunction → List Float → ℕ → ℕ → ℕ → ℕ → Float
+costTo cost run n a b zero = +0
+costTo cost run n a b (suc c) = costTo cost run n a b c +ᶠ costOf cost (segmentOf (channelOf run n c) a b)

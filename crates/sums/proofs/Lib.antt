@@ -1,3 +1,4 @@
 pub mod SumLaws
 pub mod ExtremeLaws
 pub mod Outcomes
+pub mod ChannelLaws

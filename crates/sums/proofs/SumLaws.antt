@@ -68,7 +68,7 @@ summed-since f r = record { sums = r .sums; squares = r .squares; frame = frame-
 pub summed-all : {xs : List Float} {mean : Float} {i n : ℕ} {x y : List Float} {place : ℕ} → i ≡ n → SummedTo xs mean i n x y place → Summed xs mean n x y place
 summed-all {xs} {mean} {i} {n} {x} {y} {place} e r =
     let s = subst (λ (k : ℕ). SummedTo xs mean k n x y place) e r in
-    record { sums = s .sums; squares = s .squares; frame = s .frame }
+    record { held = record { sums = s .sums; squares = s .squares }; frame = s .frame }
 
 -- ---- the room
 pub half-room : (size n place : ℕ) → place ≤ size → ltb n ((size - place) / 2) ≡ twoRuns size n place

@@ -36,10 +36,14 @@ squaresTo xs mean (suc i) = squaresTo xs mean i +ᶠ centred xs mean i *ᶠ cent
 unfoldable pub twoRuns : ℕ → ℕ → ℕ → Bool
 twoRuns size n place = leb (place + 2 * (n + 1)) size
 
--- the area holds the sums of 0 to n readings from a place on, those of the squares after them, and is otherwise unchanged
+-- an area holds the sums of 0 to n readings from a place on, and those of the squares after them
+pub record Held (xs : List Float) (mean : Float) (n : ℕ) (area : List Float) (place : ℕ) : Type 0 where
+  pub sums : part area place (n + 1) ≡ tab (centredTo xs mean) (n + 1)
+  pub squares : part area (place + (n + 1)) (n + 1) ≡ tab (squaresTo xs mean) (n + 1)
+
+-- it holds them, and is otherwise unchanged
 pub record Summed (xs : List Float) (mean : Float) (n : ℕ) (before after : List Float) (place : ℕ) : Type 0 where
-  pub sums : part after place (n + 1) ≡ tab (centredTo xs mean) (n + 1)
-  pub squares : part after (place + (n + 1)) (n + 1) ≡ tab (squaresTo xs mean) (n + 1)
+  pub held : Held xs mean n after place
   pub frame : Frame before after place (2 * (n + 1))
 
 -- what `cumulative_sums` leaves: that where there is room, and the area as it was where there is none

@@ -17,7 +17,7 @@ fn two_runs(size: usize, n: usize, place: usize) -> bool
 }
 
 // Cost: one turn for each reading.
-fn run_on(channel: &[f64], mean: f64, area: &mut [f64], place: usize)
+pub(crate) fn run_on(channel: &[f64], mean: f64, area: &mut [f64], place: usize)
     requires { ⌜ place + 2 * (length (now channel) + 1) ≤ length (now area) ⌝ }
     ensures { λ r. ⌜ Summed (now (channel .entry)) mean (length (now (channel .entry))) (now (area .entry)) (now (area .exit)) place ⌝ }
 {

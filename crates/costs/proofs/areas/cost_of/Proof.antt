@@ -1,0 +1,38 @@
+use mathlib.Core.Path.{_≡_, refl, sym, ap, _∙_}
+use mathlib.Core.List.{List, [], _∷_, _++_}
+use mathlib.Core.Logic.{⊎-elim}
+use Prim.Native.Nat.{ℕ, suc, _≤_, _<_, _*_, _-_, _+_}
+use native.Mathlib.Omega.{arith}
+use native.Mathlib.Numerals.{add-one}
+use native.Mathlib.Nat.{le-antisymm}
+use lib.ListN.{length, getD, take, drop, set, length-set}
+use lib.Ieee.{Float, nan}
+use borrow.Author.Needs.{needs}
+use Rattle.costs.proofs.areas.cost_of.Statement.{statement}
+use Rattle.costs.proofs.areas.cost_of.Tie as tie
+use Rattle.costs.proofs.areas.cost_of.Reads as reads
+use Rattle.costs.proofs.areas.cost_of.Lts as lts
+use Rattle.costs.proofs.areas.add_channels.Reads as add-channels-reads
+use Rattle.costs.proofs.areas.segment_fits.Reads as segment-fits-reads
+use lib.Ieee.{ofBits, div}
+use Rattle.costs.specs.Areas.{areaCost}
+use Rattle.costs.proofs.AreaLaws.{fitted}
+
+segment-fits-requires : tie.Need-segment-fits-requires
+segment-fits-requires c κs = search needs
+
+add-channels-requires : tie.Need-add-channels-requires
+add-channels-requires c κs =
+    let f = fitted _ _ _ _ _ (sym (c .before .segment-fits .ensures) ∙ c .if1 .taken) in
+    (f .some, f .within, f .short, f .few, f .room)
+
+returns : tie.Need-returns
+unfolding areaCost
+returns c = rw (areaCost, ← c .before .before .segment-fits .ensures, c .before .if1 .taken) (c .add-channels .ensures)
+
+returns-2 : tie.Need-returns-2
+unfolding areaCost ofBits div
+returns-2 c = rw (areaCost, ← c .before .segment-fits .ensures, c .if1 .left)
+
+pub cost-of-spec : {M : Type 1} → statement M
+cost-of-spec = tie.close (tie.spec segment-fits-requires add-channels-requires returns returns-2)
