@@ -6,12 +6,15 @@
 mod gaps;
 mod lengths;
 mod parts;
+mod view;
 
 pub use gaps::all_finite;
 pub use gaps::first_gap;
 pub use lengths::shape;
 pub use parts::channel;
 use refusals::Refusal;
+pub use view::Readings;
+pub use view::channel_of;
 
 // What the lengths say of a run: so many channels of so many readings each, or a refusal.
 pub enum Shaped {
