@@ -5,7 +5,7 @@
 // after it wrapped is refused, and a view over refused lengths has no channels.
 //
 // What the answers say in document 01's numbers: `shaped` and `checked` in `specs/`, and the laws
-// `said-in-order` and `checked-said` in `proofs/`.
+// `shaped-said` and `checked-said` in `proofs/`.
 mod gaps;
 mod lengths;
 mod parts;
