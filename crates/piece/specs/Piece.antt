@@ -1,11 +1,13 @@
 -- The summary of a piece of one channel, and when it is refused. Definitions only.
 use Prim.Native.Nat.{ℕ, _-_}
 use mathlib.Core.Bool.{_&&_, cond}
-use mathlib.Core.List.{List}
+use mathlib.Core.List.{List, [], _∷_}
 use lib.Dec.{ltb, leb}
 use lib.ListN.{length}
-use lib.Ieee.{Float}
+use lib.Ieee.{Float, binary64, toBits}
 use Rattle.floats.specs.Numbers.{_+ᶠ_, _/ᶠ_}
+use Rattle.refusals.specs.Stated.{stated}
+use Rattle.refusals.specs.Said.{Said, refused, answered}
 use Rattle.refusals.specs.declared.Refusal.the-variants as Refusal
 use Rattle.sums.specs.Sums.{meanOf, centredTo, squaresTo}
 use Rattle.costs.specs.Costs.{segmentOf, l2Cost}
@@ -29,3 +31,8 @@ unfoldable pub summarisedAs : List Float → ℕ → ℕ → Summarised
 summarisedAs xs a b =
     cond (ltb 4096 (length xs)) (Summarised.Refused Refusal.TooLong)
     (cond (ltb a b && leb b (length xs)) (Summarised.Piece (summaryOf xs a b)) (Summarised.Refused Refusal.Piece))
+
+-- what `summary` says: the length, and the bits of the mean and the spread, with one NaN; or the refusal's number
+abbrev pub summarised : Summarised → Said
+summarised (Summarised.Piece s) = answered (s .length ∷ toBits binary64 (s .mean) ∷ toBits binary64 (s .spread) ∷ [])
+summarised (Summarised.Refused r) = refused (stated r)

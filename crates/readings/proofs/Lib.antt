@@ -3,3 +3,4 @@ pub mod LengthLaws
 pub mod GapLaws
 pub mod ChannelLaws
 pub mod Examples
+pub mod ViewLaws
