@@ -42,9 +42,6 @@ fit run n k size e = go (leb k 8) (leb n 4096) (leb (k * n) run) (leb (k * (2 * 
     go true false c d p q r s e = absurd (false≢true e)
     go false b c d p q r s e = absurd (false≢true e)
 
-pub channels-small : (n k : ℕ) → k ≤ 8 → n ≤ 4096 → k * n ≤ 32768
-channels-small n k h l = mul-le-mul {n₁ = k} {m₁ = n} {n₂ = 8} {m₂ = 4096} h l
-
 pub sums-small : (n k : ℕ) → k ≤ 8 → n ≤ 4096 → k * (2 * (n + 1)) ≤ 65552
 sums-small n k h l = mul-le-mul {n₁ = k} {m₁ = 2 * (n + 1)} {n₂ = 8} {m₂ = 8194} h (omega arith)
 

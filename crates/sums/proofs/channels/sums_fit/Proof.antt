@@ -14,10 +14,11 @@ use Rattle.sums.proofs.channels.sums_fit.Reads as reads
 use Rattle.sums.proofs.channels.sums_fit.Lts as lts
 use borrow.Author.Tests.{le-leb, lt-leb}
 use Rattle.sums.specs.EachChannel.{sumsFit}
-use Rattle.sums.proofs.ChannelLaws.{channels-small, sums-small}
+use Rattle.sums.proofs.ChannelLaws.{sums-small}
+use Rattle.readings.proofs.ChannelLaws.{small-product}
 
 mul-if3 : tie.Need-mul-if3
-mul-if3 c = let a = c .before .before .args in omega (arith, channels-small (a .n) (a .channels) (c .before .if1 .taken) (c .if2 .taken))
+mul-if3 c = let a = c .before .before .args in omega (arith, small-product (a .n) (a .channels) (c .if2 .taken) (c .before .if1 .taken))
 
 add-result : tie.Need-add-result
 add-result c = search needs

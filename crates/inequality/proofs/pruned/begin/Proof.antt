@@ -1,0 +1,74 @@
+use mathlib.Core.Path.{_≡_, refl, sym, ap, _∙_}
+use mathlib.Core.List.{List, [], _∷_, _++_}
+use mathlib.Core.Logic.{⊎-elim}
+use Prim.Native.Nat.{ℕ, suc, _≤_, _<_, _*_, _-_, _+_}
+use native.Mathlib.Omega.{arith}
+use native.Mathlib.Numerals.{add-one}
+use native.Mathlib.Nat.{le-antisymm}
+use lib.ListN.{length, getD, take, drop, set, length-set}
+use lib.Ieee.{Float, nan}
+use borrow.Author.Needs.{needs}
+use Rattle.inequality.proofs.pruned.begin.Statement.{statement}
+use Rattle.inequality.proofs.pruned.begin.Tie as tie
+use Rattle.inequality.proofs.pruned.begin.Reads as reads
+use Rattle.inequality.proofs.pruned.begin.Lts as lts
+use Rattle.areas.proofs.clear_floats.Reads as clear-floats-reads
+use Rattle.areas.proofs.clear_indices.Reads as clear-indices-reads
+use Rattle.sums.proofs.channel_sums.Reads as channel-sums-reads
+use denote.Ref.{now}
+use lib.Ieee.{ofBits, neg}
+use Rattle.inequality.proofs.StepLaws.{begun}
+
+add-w : tie.Need-add-w
+add-w c = search needs
+
+channel-sums-requires : tie.Need-channel-sums-requires
+channel-sums-requires c κs = search needs
+
+clear-floats-requires : tie.Need-clear-floats-requires
+clear-floats-requires c κs = search needs
+
+mul-floats : tie.Need-mul-floats
+mul-floats c = search needs
+
+slice-write-floats : tie.Need-slice-write-floats
+slice-write-floats c = search needs
+
+clear-indices-requires : tie.Need-clear-indices-requires
+clear-indices-requires c κs = search needs
+
+mul-indices : tie.Need-mul-indices
+mul-indices c = search needs
+
+slice-write-indices : tie.Need-slice-write-indices
+slice-write-indices c = search needs
+
+same-length : tie.Need-same-length
+same-length c =
+    let a = c .before .before .before .before .before .before .before .before .before .before .before .before .before .before .before .before .before .args in
+    length-set (c .before .before .before .before .before .before .before .clear-floats .last .0) (a .plan .f) (neg (a .plan .penalty)) ∙ c .before .before .before .before .before .before .before .clear-floats .kept .0 ∙ c .before .before .before .before .before .before .before .before .before .before .before .channel-sums .kept .1 .1 .1 .0
+
+same-length-2 : tie.Need-same-length-2
+same-length-2 c = search needs
+
+returns : tie.Need-returns
+returns c =
+    let a = c .before .before .before .before .before .before .before .before .before .before .before .before .before .before .before .before .before .args in
+    let p = c .before .before .before .before .before .before .before .before .before .before .before .before .before .before .before .before .before .pre in
+    begun (now (a .run)) (a .plan) (now (a .floats)) (c .before .before .before .before .before .before .before .before .before .before .before .channel-sums .last .1 .1 .1 .0) (c .before .before .before .before .before .before .before .clear-floats .last .0) (now (a .indices)) (c .before .before .clear-indices .last .0) (a .plan .f) (a .plan .c) 0 (neg (a .plan .penalty)) (p .0) (p .1) (c .before .before .before .before .before .before .before .before .before .before .before .channel-sums .ensures) (c .before .before .before .before .before .before .before .clear-floats .ensures) (c .before .before .clear-indices .ensures) refl refl refl refl
+
+pub begin-spec : {M : Type 1} → statement M
+begin-spec =
+    tie.close
+    (tie.spec
+    add-w
+    channel-sums-requires
+    clear-floats-requires
+    mul-floats
+    slice-write-floats
+    clear-indices-requires
+    mul-indices
+    slice-write-indices
+    same-length
+    same-length-2
+    returns)

@@ -1,0 +1,98 @@
+use mathlib.Core.Path.{_≡_, refl, sym, ap, _∙_}
+use mathlib.Core.List.{List, [], _∷_, _++_}
+use mathlib.Core.Logic.{⊎-elim}
+use Prim.Native.Nat.{ℕ, suc, _≤_, _<_, _*_, _-_, _+_}
+use native.Mathlib.Omega.{arith}
+use native.Mathlib.Numerals.{add-one}
+use native.Mathlib.Nat.{le-antisymm}
+use lib.ListN.{length, getD, take, drop, set, length-set}
+use lib.Ieee.{Float, nan}
+use borrow.Author.Needs.{needs}
+use Rattle.inequality.proofs.pruned.partition_pruned.Statement.{statement}
+use Rattle.inequality.proofs.pruned.partition_pruned.Tie as tie
+use Rattle.inequality.proofs.pruned.partition_pruned.Reads as reads
+use Rattle.inequality.proofs.pruned.partition_pruned.Lts as lts
+use Rattle.areas.proofs.clear_floats.Reads as clear-floats-reads
+use Rattle.areas.proofs.clear_indices.Reads as clear-indices-reads
+use Rattle.inequality.proofs.pruned.begin.Reads as begin-reads
+use Rattle.inequality.proofs.steps.search.Reads as search-reads
+use Rattle.recurrence.proofs.search_fits.Reads as search-fits-reads
+use denote.Ref.{now}
+use mathlib.Core.Bool.{true}
+use Rattle.recurrence.specs.Room.{searchFits}
+use Rattle.recurrence.proofs.RoomLaws.{Series, fits-series, fits-room}
+use Rattle.sums.proofs.ChannelLaws.{sums-small}
+use Rattle.inequality.proofs.PrunedLaws.{plan-room, pruned-found, pruned-kept}
+
+search-fits-requires : tie.Need-search-fits-requires
+search-fits-requires c κs = search needs
+
+-- the search fits, and the products with it
+fits : (c : tie.Then1) → let a = c .before .before .before .before .before .args in searchFits (length (now (a .run))) (a .n) (a .channels) (a .m) (length (now (a .floats))) (length (now (a .indices))) ≡ true
+fits c = sym (c .before .search-fits .ensures) ∙ c .if1 .taken
+
+series : (c : tie.Then1) → let a = c .before .before .before .before .before .args in Series (length (now (a .run))) (a .n) (a .channels) (a .m)
+series c = fits-series _ _ _ _ _ _ (fits c)
+
+small : (c : tie.Then1) → let a = c .before .before .before .before .before .args in a .channels * (2 * (a .n + 1)) ≤ 65552
+small c = let a = c .before .before .before .before .before .args in sums-small (a .n) (a .channels) (series c .few) (series c .short)
+
+add-w : tie.Need-add-w
+add-w c = let s = series c in omega arith
+
+mul-f : tie.Need-mul-f
+mul-f c = let s = series c in omega arith
+
+mul-f-2 : tie.Need-mul-f-2
+mul-f-2 c = omega (arith, small c)
+
+add-clear-floats : tie.Need-add-clear-floats
+add-clear-floats c = let s = series c in omega (arith, small c)
+
+begin-requires : tie.Need-begin-requires
+begin-requires c κs =
+    let a = c .before .before .before .before .before .before .before .args in
+    (plan-room _ _ _ _ _ _ _ _ _ _ _ (series (c .before .before)) (fits-room _ _ _ _ _ _ (fits (c .before .before))) refl refl refl, series (c .before .before) .readings)
+
+search-requires : tie.Need-search-requires
+search-requires c κs = (c .before .before .before .before .before .before .begin .ensures, series (c .before .before .before .before .before .before .before .before .before) .ripe)
+
+clear-floats-requires : tie.Need-clear-floats-requires
+clear-floats-requires c κs = search needs
+
+clear-indices-requires : tie.Need-clear-indices-requires
+clear-indices-requires c κs = search needs
+
+same-length : tie.Need-same-length
+same-length c = search needs
+
+same-length-2 : tie.Need-same-length-2
+same-length-2 c = search needs
+
+returns : tie.Need-returns
+returns c =
+    let a = c .before .before .before .before .before .before .before .before .before .before .before .before .before .before .before .before .before .before .before .before .before .before .before .before .before .before .before .args in
+    let q = c .before .before .before .before .before .before .before .before .before .before .before .before .search in
+    let g = c .before .before .before .before .before .before .before .before .before .before .before .before .before .before .before .before .before .before .before .begin in
+    pruned-found _ (now (a .run)) (now (a .floats)) (q .last .1 .0) (c .before .before .before .before .before .before .clear-floats .last .0) (now (a .indices)) (q .last .1 .1 .0) (c .before .before .clear-indices .last .0) (q .result) _ _ _ (fits (c .before .before .before .before .before .before .before .before .before .before .before .before .before .before .before .before .before .before .before .before .before .before)) (q .ensures) (q .kept .1 .0 ∙ g .kept .1 .0) (q .kept .1 .1 .0 ∙ g .kept .1 .1 .0) (c .before .before .before .before .before .before .clear-floats .ensures) refl (c .before .before .clear-indices .ensures) refl refl
+
+returns-2 : tie.Need-returns-2
+returns-2 c = pruned-kept (sym (c .before .search-fits .ensures) ∙ c .if1 .left)
+
+pub partition-pruned-spec : {M : Type 1} → statement M
+partition-pruned-spec =
+    tie.close
+    (tie.spec
+    search-fits-requires
+    add-w
+    mul-f
+    mul-f-2
+    add-clear-floats
+    begin-requires
+    search-requires
+    clear-floats-requires
+    clear-indices-requires
+    same-length
+    same-length-2
+    returns
+    returns-2)

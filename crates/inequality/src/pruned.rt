@@ -1,0 +1,61 @@
+// The search from the lent areas as they come to the predecessors.
+ghost use Prim.Native.Nat.{_+_, _*_, _≤_};
+ghost use lib.ListN.{length};
+ghost use Rattle.inequality.specs.Held.{Room, Holds};
+ghost use Rattle.inequality.specs.Pruned.{Pruned};
+use crate::Plan;
+use crate::steps::search;
+use areas::clear_floats;
+use areas::clear_indices;
+use costs::CostFunction;
+use recurrence::search_fits;
+use sums::channel_sums;
+
+// The areas as the first step wants them: the sums, F(0), no predecessor, and the candidate 0.
+fn begin(run: &[f64], floats: &mut [f64], indices: &mut [usize], plan: Plan)
+    requires { ⌜ Room plan (length (now floats)) (length (now indices)) × (plan .channels * plan .n ≤ length (now run)) ⌝ }
+    ensures { λ r. ⌜ Holds (now (run .entry)) plan (now (floats .exit)) (now (indices .exit)) 1 (plan .m) ⌝ }
+{
+    let f = plan.f;
+    let c = plan.c;
+    let w = plan.n + 1;
+    channel_sums(run, plan.n, plan.channels, floats);
+    clear_floats(floats, f, w);
+    floats[f] = -plan.penalty;
+    clear_indices(indices, 0, w);
+    indices[c] = 0;
+}
+
+// The predecessors of 0 to n by the inequality search, at the front of the indices; every other lent
+// place is zero afterwards. Nothing is changed where the search does not fit.
+pub fn partition_pruned(
+    cost: CostFunction,
+    penalty: f64,
+    run: &[f64],
+    n: usize,
+    channels: usize,
+    m: usize,
+    floats: &mut [f64],
+    indices: &mut [usize],
+)
+    ensures { λ r. ⌜ Pruned cost penalty (now (run .entry)) n channels m (now (floats .entry)) (now (floats .exit)) (now (indices .entry)) (now (indices .exit)) ⌝ }
+{
+    if search_fits(run.len(), n, channels, m, floats.len(), indices.len()) {
+        let w = n + 1;
+        let f = channels * (2 * w);
+        let plan = Plan {
+            cost,
+            penalty,
+            n,
+            m,
+            channels,
+            f,
+            p: f + w,
+            c: w,
+        };
+        begin(run, floats, indices, plan);
+        search(run, floats, indices, plan);
+        clear_floats(floats, 0, floats.len());
+        clear_indices(indices, w, indices.len());
+    }
+}

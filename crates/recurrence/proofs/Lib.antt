@@ -1,0 +1,4 @@
+pub mod All
+pub mod MinimumLaws
+pub mod PredecessorLaws
+pub mod RoomLaws

@@ -1,0 +1,35 @@
+use mathlib.Core.Path.{_≡_, refl, sym, ap, _∙_}
+use mathlib.Core.List.{List, [], _∷_, _++_}
+use mathlib.Core.Logic.{⊎-elim}
+use Prim.Native.Nat.{ℕ, suc, _≤_, _<_, _*_, _-_, _+_}
+use native.Mathlib.Omega.{arith}
+use native.Mathlib.Numerals.{add-one}
+use native.Mathlib.Nat.{le-antisymm}
+use lib.ListN.{length, getD, take, drop, set, length-set}
+use lib.Ieee.{Float, nan}
+use borrow.Author.Needs.{needs}
+use Rattle.recurrence.proofs.room.search_fits.Statement.{statement}
+use Rattle.recurrence.proofs.room.search_fits.Tie as tie
+use Rattle.recurrence.proofs.room.search_fits.Reads as reads
+use Rattle.recurrence.proofs.room.search_fits.Lts as lts
+use Rattle.recurrence.proofs.room.room_fits.Reads as room-fits-reads
+use Rattle.recurrence.proofs.room.series_fits.Reads as series-fits-reads
+use Rattle.recurrence.specs.Room.{searchFits}
+use Rattle.recurrence.proofs.RoomLaws.{series}
+
+series-fits-requires : tie.Need-series-fits-requires
+series-fits-requires c κs = search needs
+
+room-fits-requires : tie.Need-room-fits-requires
+room-fits-requires c κs = let s = series _ _ _ _ (sym (c .before .series-fits .ensures) ∙ c .if1 .taken) in (s .few, s .short)
+
+returns : tie.Need-returns
+unfolding searchFits
+returns c = rw (searchFits, ← c .before .before .series-fits .ensures, c .before .if1 .taken) (c .room-fits .ensures)
+
+returns-2 : tie.Need-returns-2
+unfolding searchFits
+returns-2 c = rw (searchFits, ← c .before .series-fits .ensures, c .if1 .left)
+
+pub search-fits-spec : {M : Type 1} → statement M
+search-fits-spec = tie.close (tie.spec series-fits-requires room-fits-requires returns returns-2)

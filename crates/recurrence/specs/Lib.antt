@@ -1,0 +1,3 @@
+pub mod Minimum
+pub mod Predecessors
+pub mod Room
