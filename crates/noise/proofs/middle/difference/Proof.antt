@@ -1,0 +1,91 @@
+use mathlib.Core.Path.{_≡_, refl, sym, ap, _∙_}
+use mathlib.Core.List.{List, [], _∷_, _++_}
+use mathlib.Core.Logic.{⊎-elim}
+use Prim.Native.Nat.{ℕ, suc, _≤_, _<_, _*_, _-_, _+_}
+use native.Mathlib.Omega.{arith}
+use native.Mathlib.Numerals.{add-one}
+use native.Mathlib.Nat.{le-antisymm}
+use lib.ListN.{length, getD, take, drop, set, length-set}
+use lib.Ieee.{Float, nan}
+use borrow.Author.Needs.{needs}
+use Rattle.noise.proofs.middle.difference.Statement.{statement}
+use Rattle.noise.proofs.middle.difference.Tie as tie
+use Rattle.noise.proofs.middle.difference.Reads as reads
+use Rattle.noise.proofs.middle.difference.Lts as lts
+use Rattle.floats.proofs.abs.Reads as abs-reads
+use denote.Ref.{now}
+use Rattle.readings.specs.Parts.{tab}
+use Rattle.noise.specs.Median.{differenceAt, differences}
+use Rattle.noise.proofs.MedianLaws.{differences-more, whole-front}
+
+abbrev Inv-loop : tie.InvT-loop
+Inv-loop channel run₀ i₀ run i = (i ≤ length run) × (length run ≡ length run₀) × (length run + 1 ≡ length channel) × (take i run ≡ tab (differenceAt channel) i)
+
+abbrev μ-loop : tie.MeasureT-loop
+μ-loop channel run₀ i₀ run i = length run - i
+
+loop-holds : tie.Need-loop-holds Inv-loop μ-loop
+unfolding tab
+loop-holds c = (search needs, refl, c .before .before .pre, refl)
+
+add-abs : tie.Need-add-abs Inv-loop μ-loop
+add-abs c = search needs
+
+mul-abs : tie.Need-mul-abs Inv-loop μ-loop
+mul-abs c = search needs
+
+shared-slice-read-abs : tie.Need-shared-slice-read-abs Inv-loop μ-loop
+shared-slice-read-abs c = search needs
+
+mul-abs-2 : tie.Need-mul-abs-2 Inv-loop μ-loop
+mul-abs-2 c = search needs
+
+shared-slice-read-abs-2 : tie.Need-shared-slice-read-abs-2 Inv-loop μ-loop
+shared-slice-read-abs-2 c = search needs
+
+abs-requires : tie.Need-abs-requires Inv-loop μ-loop
+abs-requires c κs = search needs
+
+mul-run : tie.Need-mul-run Inv-loop μ-loop
+mul-run c = search needs
+
+slice-write-run : tie.Need-slice-write-run Inv-loop μ-loop
+slice-write-run c = search needs
+
+add-i : tie.Need-add-i Inv-loop μ-loop
+add-i c = search needs
+
+loop-less : tie.Need-loop-less Inv-loop μ-loop
+loop-less c = simp length-set (omega arith)
+
+loop-again : tie.Need-loop-again Inv-loop μ-loop
+unfolding differenceAt
+loop-again c = (simp length-set (omega arith), simp length-set (c .before .before .before .before .loop .inv .1), simp length-set (c .before .before .before .before .loop .inv .2), differences-more (now (c .before .before .before .before .before .before .before .args .channel)) _ _ _ (c .before .before .before .loop-test .taken) (c .abs .ensures) (c .before .before .before .before .loop .inv .3))
+
+same-length : tie.Need-same-length Inv-loop μ-loop
+same-length c = c .before .loop .inv .1
+
+returns : tie.Need-returns Inv-loop μ-loop
+unfolding differences
+returns c = let e : c .before .loop .i ≡ length (c .before .loop .run) = omega arith in let f : c .before .loop .i ≡ length (now (c .before .before .before .before .args .channel)) - 1 = omega arith in whole-front _ _ _ e (c .before .loop .inv .3) ∙ ap (tab (differenceAt (now (c .before .before .before .before .args .channel)))) f
+
+pub difference-spec : {M : Type 1} → statement M
+difference-spec =
+    tie.close
+    (tie.spec
+    Inv-loop
+    μ-loop
+    loop-holds
+    add-abs
+    mul-abs
+    shared-slice-read-abs
+    mul-abs-2
+    shared-slice-read-abs-2
+    abs-requires
+    mul-run
+    slice-write-run
+    add-i
+    loop-less
+    loop-again
+    same-length
+    returns)

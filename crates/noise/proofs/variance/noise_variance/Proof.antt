@@ -1,0 +1,37 @@
+use mathlib.Core.Path.{_≡_, refl, sym, ap, _∙_}
+use mathlib.Core.List.{List, [], _∷_, _++_}
+use mathlib.Core.Logic.{⊎-elim}
+use Prim.Native.Nat.{ℕ, suc, _≤_, _<_, _*_, _-_, _+_}
+use native.Mathlib.Omega.{arith}
+use native.Mathlib.Numerals.{add-one}
+use native.Mathlib.Nat.{le-antisymm}
+use lib.ListN.{length, getD, take, drop, set, length-set}
+use lib.Ieee.{Float, nan}
+use borrow.Author.Needs.{needs}
+use Rattle.noise.proofs.variance.noise_variance.Statement.{statement}
+use Rattle.noise.proofs.variance.noise_variance.Tie as tie
+use Rattle.noise.proofs.variance.noise_variance.Reads as reads
+use Rattle.noise.proofs.variance.noise_variance.Lts as lts
+use Rattle.noise.proofs.variance.estimate.Reads as estimate-reads
+use Rattle.noise.proofs.variance.has_room.Reads as has-room-reads
+use Rattle.floats.proofs.Order.Zero.{zero-by-zero}
+use Rattle.noise.proofs.NoiseLaws.{has-room, lent-found, lent-nothing}
+
+has-room-requires : tie.Need-has-room-requires
+has-room-requires c κs = search needs
+
+estimate-requires : tie.Need-estimate-requires
+estimate-requires c κs = has-room _ _ _ (sym (c .before .before .has-room .ensures) ∙ c .before .if1 .taken)
+
+same-length : tie.Need-same-length
+same-length c = search needs
+
+returns : tie.Need-returns
+returns c = lent-found (sym (c .before .before .before .before .before .has-room .ensures) ∙ c .before .before .before .before .if1 .taken) (c .before .before .estimate .ensures .0) (c .before .before .estimate .ensures .1)
+
+returns-2 : tie.Need-returns-2
+returns-2 c = lent-nothing (sym (c .before .has-room .ensures) ∙ c .if1 .left) zero-by-zero
+
+pub noise-variance-spec : {M : Type 1} → statement M
+noise-variance-spec =
+    tie.close (tie.spec has-room-requires estimate-requires same-length returns returns-2)
