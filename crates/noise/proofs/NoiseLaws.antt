@@ -45,6 +45,10 @@ pub has-room : (size n place : ℕ) → hasRoom size n place ≡ true → place 
 unfolding hasRoom
 has-room size n place e = leb-true (place + (n - 1)) size e
 
+room-is : (size n place : ℕ) → place + (n - 1) ≤ size → hasRoom size n place ≡ true
+unfolding hasRoom
+room-is size n place h = le-leb (place + (n - 1)) size h
+
 -- ---- the places cleared
 pub nothing-cleared : (area : List Float) (n place : ℕ) → n < 2 → area ≡ cleared area n place
 unfolding cleared
@@ -74,16 +78,11 @@ cleared-part area n place h =
     ap (take (n - 1)) (drop-at (take place area) (replicate (n - 1) +0 ++ drop (place + (n - 1)) area) place (length-take-le place area (omega arith)))
     ∙ take-at (replicate (n - 1) +0) (drop (place + (n - 1)) area) (n - 1) (length-replicate (n - 1) +0)
 
-cleared-length : (area : List Float) (n place : ℕ) → place + (n - 1) ≤ length area → length (cleared area n place) ≡ length area
+pub cleared-length : (area : List Float) (n place : ℕ) → place + (n - 1) ≤ length area → length (cleared area n place) ≡ length area
 unfolding cleared
 cleared-length area n place h = simp (length-append, length-take, length-drop, length-replicate) (omega arith)
 
-pub cleared-ready : (area after : List Float) (n place : ℕ) → after ≡ cleared area n place → place + (n - 1) ≤ length area
-    → (place + (n - 1) ≤ length after) × (part after place (n - 1) ≡ replicate (n - 1) +0)
-cleared-ready area after n place e h =
-    (omega (arith, ap length e ∙ cleared-length area n place h), ap (λ (l : List Float). part l place (n - 1)) e ∙ cleared-part area n place h)
-
-pub clear-already : (area : List Float) (n m place : ℕ) → part area place (n - 1) ≡ replicate (n - 1) +0 → m ≤ n → cleared area m place ≡ area
+clear-already : (area : List Float) (n m place : ℕ) → part area place (n - 1) ≡ replicate (n - 1) +0 → m ≤ n → cleared area m place ≡ area
 unfolding cleared part
 clear-already area n m place e h =
     let f : take (m - 1) (drop place area) ≡ replicate (m - 1) +0 =
@@ -93,20 +92,13 @@ clear-already area n m place e h =
     ∙ take-append-drop place area
 
 -- ---- the sum over channels
-pub channel-short : (run : List Float) (n k : ℕ) → length (channelOf run n k) ≤ n
+channel-short : (run : List Float) (n k : ℕ) → length (channelOf run n k) ≤ n
 unfolding channelOf part
 channel-short run n k = side (hasChannel (length run) n k)
   where
     side : (b : Bool) → length (cond b (take n (drop (k * n) run)) []) ≤ n
     side true = simp length-take (omega arith)
     side false = omega arith
-
-pub channel-room : (run ch area₀ area : List Float) (n k place : ℕ) → ch ≡ channelOf run n k → area ≡ area₀ → place + (n - 1) ≤ length area₀ → place + (length ch - 1) ≤ length area
-channel-room run ch area₀ area n k place e f h = omega (arith, ap length e, ap length f, channel-short run n k)
-
-pub still-clear : (run ch area₀ area after : List Float) (n k place : ℕ) → part area₀ place (n - 1) ≡ replicate (n - 1) +0 → ch ≡ channelOf run n k → area ≡ area₀ → after ≡ cleared area (length ch) place → after ≡ area₀
-still-clear run ch area₀ area after n k place e f g h =
-    h ∙ ap (λ (l : List Float). cleared l (length ch) place) g ∙ clear-already area₀ n (length ch) place e (omega (arith, ap length f, channel-short run n k))
 
 pub sum-more : (run ch : List Float) (n k : ℕ) (s v : Float) → s ≡ noiseSumTo run n k → ch ≡ channelOf run n k → v ≡ noise ch → s +ᶠ v ≡ noiseSumTo run n (k + 1)
 unfolding noiseSumTo
@@ -118,3 +110,28 @@ lent-found e p q = record { answer = rw e p; area = rw e q }
 
 pub lent-nothing : {value r : Float} {n place : ℕ} {before : List Float} → hasRoom (length before) n place ≡ false → r ≡ nan → Lent value n place before before r
 lent-nothing e p = record { answer = rw e p; area = rw e refl }
+
+pub lent-there : {value r : Float} {n place : ℕ} {before after : List Float} → hasRoom (length before) n place ≡ true → Lent value n place before after r → (r ≡ value) × (after ≡ cleared before n place)
+lent-there {value} {r} {n} {place} {before} {after} e l =
+    (l .answer ∙ ap (λ (b : Bool). cond b value nan) e, l .area ∙ ap (λ (b : Bool). cond b (cleared before n place) before) e)
+
+-- a channel's variance found in an area that is clear already: the area is as it was
+pub channel-lent : (run ch base area₀ area after : List Float) (n k place : ℕ) (v : Float) → hasRoom (length base) n place ≡ true → area₀ ≡ cleared base n place → area ≡ area₀ → ch ≡ channelOf run n k
+    → Lent (noise ch) (length ch) place area after v → (v ≡ noise ch) × (after ≡ area₀)
+channel-lent run ch base area₀ area after n k place v h e f g l =
+    (there .0, there .1 ∙ ap (λ (s : List Float). cleared s (length ch) place) f ∙ clear-already area₀ n (length ch) place clear short)
+  where
+    room : place + (n - 1) ≤ length base
+    room = has-room (length base) n place h
+
+    short : length ch ≤ n
+    short = omega (arith, ap length g, channel-short run n k)
+
+    long : length area ≡ length base
+    long = ap length (f ∙ e) ∙ cleared-length base n place room
+
+    clear : part area₀ place (n - 1) ≡ replicate (n - 1) +0
+    clear = ap (λ (s : List Float). part s place (n - 1)) e ∙ cleared-part base n place room
+
+    there : (v ≡ noise ch) × (after ≡ cleared area (length ch) place)
+    there = lent-there (room-is (length area) (length ch) place (omega (arith, room, short, long))) l

@@ -12,18 +12,50 @@ use Rattle.noise.proofs.variance.add_noise.Statement.{statement}
 use Rattle.noise.proofs.variance.add_noise.Tie as tie
 use Rattle.noise.proofs.variance.add_noise.Reads as reads
 use Rattle.noise.proofs.variance.add_noise.Lts as lts
-use Rattle.noise.proofs.variance.estimate.Reads as estimate-reads
+use Rattle.noise.proofs.middle.clear.Reads as clear-reads
+use Rattle.noise.proofs.variance.noise_variance.Reads as noise-variance-reads
+use Rattle.noise.proofs.variance.steps.Reads as steps-reads
 use Rattle.readings.proofs.channel.Reads as channel-reads
 use denote.Ref.{now}
 use lib.Ieee.{ofBits}
-use Rattle.noise.specs.Noise.{noiseSumTo}
-use Rattle.noise.proofs.NoiseLaws.{channel-room, still-clear, sum-more}
+use Rattle.noise.specs.Noise.{noiseSumTo, cleared}
+use Rattle.noise.proofs.NoiseLaws.{has-room, part-cleared, channel-lent, sum-more}
+use Rattle.noise.proofs.NoiseLaws.{cleared-length}
 
 abbrev Inv-loop : tie.InvT-loop
-Inv-loop run n channels area₀ place sum₀ k₀ area sum k = (k ≤ channels) × (sum ≡ noiseSumTo run n k) × (area ≡ area₀)
+Inv-loop run n channels area₀ place end sum₀ k₀ area sum k = (k ≤ channels) × (sum ≡ noiseSumTo run n k) × (area ≡ area₀)
 
 abbrev μ-loop : tie.MeasureT-loop
-μ-loop run n channels area₀ place sum₀ k₀ area sum k = channels - k
+μ-loop run n channels area₀ place end sum₀ k₀ area sum k = channels - k
+
+-- the area as the loop finds it
+emptied : (c : tie.After-slice-known2 Inv-loop μ-loop) → let a = c .before .before .before .before .before .before .before .args in let k = a .place + c .before .before .before .before .steps .result - a .place in
+    take (a .place) (now (a .area)) ++ (c .before .before .clear .last .0 ++ drop k (drop (a .place) (now (a .area)))) ≡ cleared (now (a .area)) (a .n) (a .place)
+emptied c =
+    let a = c .before .before .before .before .before .before .before .args in
+    let e : a .place + c .before .before .before .before .steps .result - a .place ≡ a .n - 1 = omega arith in
+    part-cleared (now (a .area)) _ _ _ _ (has-room _ _ _ (c .before .before .before .before .before .before .before .pre)) e (c .before .before .clear .ensures)
+
+steps-requires : tie.Need-steps-requires Inv-loop μ-loop
+steps-requires c κs = search needs
+
+add-end : tie.Need-add-end Inv-loop μ-loop
+add-end c = omega (arith, has-room _ _ _ (c .before .before .before .pre))
+
+mul-clear : tie.Need-mul-clear Inv-loop μ-loop
+mul-clear c = omega (arith, has-room _ _ _ (c .before .before .before .pre))
+
+sub-clear : tie.Need-sub-clear Inv-loop μ-loop
+sub-clear c = search needs
+
+part-clear-start : tie.Need-part-clear-start Inv-loop μ-loop
+part-clear-start c = search needs
+
+part-clear-end : tie.Need-part-clear-end Inv-loop μ-loop
+part-clear-end c = omega (arith, has-room _ _ _ (c .before .before .before .pre))
+
+clear-requires : tie.Need-clear-requires Inv-loop μ-loop
+clear-requires c κs = search needs
 
 loop-holds : tie.Need-loop-holds Inv-loop μ-loop
 unfolding noiseSumTo ofBits
@@ -32,8 +64,8 @@ loop-holds c = (search needs, refl, refl)
 channel-requires : tie.Need-channel-requires Inv-loop μ-loop
 channel-requires c κs = search needs
 
-estimate-requires : tie.Need-estimate-requires Inv-loop μ-loop
-estimate-requires c κs = channel-room _ _ _ _ _ _ _ (c .before .channel .ensures) (c .before .before .before .loop .inv .2) (c .before .before .before .before .before .before .pre .0)
+noise-variance-requires : tie.Need-noise-variance-requires Inv-loop μ-loop
+noise-variance-requires c κs = search needs
 
 add-k : tie.Need-add-k Inv-loop μ-loop
 add-k c = search needs
@@ -42,13 +74,13 @@ loop-less : tie.Need-loop-less Inv-loop μ-loop
 loop-less c = search needs
 
 loop-again : tie.Need-loop-again Inv-loop μ-loop
-loop-again c = (search needs, sum-more _ _ _ _ _ _ (c .before .before .before .before .before .before .loop .inv .1) (c .before .before .before .before .channel .ensures) (c .before .before .estimate .ensures .0), still-clear _ _ _ _ _ _ _ _ (c .before .before .before .before .before .before .before .before .before .pre .1) (c .before .before .before .before .channel .ensures) (c .before .before .before .before .before .before .loop .inv .2) (c .before .before .estimate .ensures .1))
+loop-again c = let l = channel-lent _ _ _ _ _ _ _ _ _ _ (c .before .before .before .before .before .before .before .before .before .before .before .before .before .before .pre) (emptied (c .before .before .before .before .before .before .before)) (c .before .before .before .before .before .before .loop .inv .2) (c .before .before .before .before .channel .ensures) (c .before .before .noise-variance .ensures) in (search needs, sum-more _ _ _ _ _ _ (c .before .before .before .before .before .before .loop .inv .1) (c .before .before .before .before .channel .ensures) (l .0), l .1)
 
 same-length : tie.Need-same-length Inv-loop μ-loop
-same-length c = ap length (c .before .loop .inv .2)
+same-length c = ap length (c .before .loop .inv .2 ∙ emptied (c .before .before)) ∙ cleared-length _ _ _ (has-room _ _ _ (c .before .before .before .before .before .before .before .before .before .pre))
 
 returns : tie.Need-returns Inv-loop μ-loop
-returns c = let e : c .before .loop .k ≡ c .before .before .before .before .args .channels = omega arith in (c .before .loop .inv .1 ∙ ap (noiseSumTo (now (c .before .before .before .before .args .run)) (c .before .before .before .before .args .n)) e, c .before .loop .inv .2)
+returns c = let e : c .before .loop .k ≡ c .before .before .before .before .before .before .before .before .before .args .channels = omega arith in (c .before .loop .inv .1 ∙ ap (noiseSumTo (now (c .before .before .before .before .before .before .before .before .before .args .run)) (c .before .before .before .before .before .before .before .before .before .args .n)) e, c .before .loop .inv .2 ∙ emptied (c .before .before))
 
 pub add-noise-spec : {M : Type 1} → statement M
 add-noise-spec =
@@ -56,9 +88,16 @@ add-noise-spec =
     (tie.spec
     Inv-loop
     μ-loop
+    steps-requires
+    add-end
+    mul-clear
+    sub-clear
+    part-clear-start
+    part-clear-end
+    clear-requires
     loop-holds
     channel-requires
-    estimate-requires
+    noise-variance-requires
     add-k
     loop-less
     loop-again

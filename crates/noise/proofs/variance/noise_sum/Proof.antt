@@ -13,37 +13,25 @@ use Rattle.noise.proofs.variance.noise_sum.Tie as tie
 use Rattle.noise.proofs.variance.noise_sum.Reads as reads
 use Rattle.noise.proofs.variance.noise_sum.Lts as lts
 use Rattle.noise.proofs.variance.add_noise.Reads as add-noise-reads
-use Rattle.noise.proofs.variance.clear_run.Reads as clear-run-reads
 use Rattle.noise.proofs.variance.has_room.Reads as has-room-reads
-use denote.Ref.{now}
 use Rattle.floats.proofs.Order.Zero.{zero-by-zero}
-use Rattle.noise.proofs.NoiseLaws.{has-room, cleared-ready, lent-found, lent-nothing}
+use Rattle.noise.proofs.NoiseLaws.{lent-found, lent-nothing}
 
 has-room-requires : tie.Need-has-room-requires
 has-room-requires c κs = search needs
 
-clear-run-requires : tie.Need-clear-run-requires
-clear-run-requires c κs = has-room _ _ _ (sym (c .before .before .has-room .ensures) ∙ c .before .if1 .taken)
-
 add-noise-requires : tie.Need-add-noise-requires
-add-noise-requires c κs = cleared-ready _ _ _ _ (c .before .before .before .clear-run .ensures) (has-room _ _ _ (sym (c .before .before .before .before .before .before .has-room .ensures) ∙ c .before .before .before .before .before .if1 .taken))
+add-noise-requires c κs = sym (c .before .before .has-room .ensures) ∙ c .before .if1 .taken
 
 same-length : tie.Need-same-length
 same-length c = search needs
 
 returns : tie.Need-returns
-returns c = lent-found (sym (c .before .before .before .before .before .before .before .before .before .has-room .ensures) ∙ c .before .before .before .before .before .before .before .before .if1 .taken) (c .before .before .add-noise .ensures .0) (c .before .before .add-noise .ensures .1 ∙ c .before .before .before .before .before .before .clear-run .ensures)
+returns c = lent-found (sym (c .before .before .before .before .before .has-room .ensures) ∙ c .before .before .before .before .if1 .taken) (c .before .before .add-noise .ensures .0) (c .before .before .add-noise .ensures .1)
 
 returns-2 : tie.Need-returns-2
 returns-2 c = lent-nothing (sym (c .before .has-room .ensures) ∙ c .if1 .left) zero-by-zero
 
 pub noise-sum-spec : {M : Type 1} → statement M
 noise-sum-spec =
-    tie.close
-    (tie.spec
-    has-room-requires
-    clear-run-requires
-    add-noise-requires
-    same-length
-    returns
-    returns-2)
+    tie.close (tie.spec has-room-requires add-noise-requires same-length returns returns-2)

@@ -12,26 +12,83 @@ use Rattle.noise.proofs.variance.noise_variance.Statement.{statement}
 use Rattle.noise.proofs.variance.noise_variance.Tie as tie
 use Rattle.noise.proofs.variance.noise_variance.Reads as reads
 use Rattle.noise.proofs.variance.noise_variance.Lts as lts
-use Rattle.noise.proofs.variance.estimate.Reads as estimate-reads
+use Rattle.floats.proofs.max.Reads as max-reads
+use Rattle.noise.proofs.middle.median_difference.Reads as median-difference-reads
 use Rattle.noise.proofs.variance.has_room.Reads as has-room-reads
+use Rattle.sums.proofs.range_of.Reads as range-of-reads
+use denote.Ref.{now}
+use lib.Ieee.{ofBits}
+use Rattle.floats.specs.Numbers.{ratio}
+use Rattle.floats.specs.MaxMin.{max}
 use Rattle.floats.proofs.Order.Zero.{zero-by-zero}
-use Rattle.noise.proofs.NoiseLaws.{has-room, lent-found, lent-nothing}
+use Rattle.sums.specs.declared.Range.{Range}
+use Rattle.noise.specs.Noise.{spreadOf, floorOf, hasRoom}
+use Rattle.noise.proofs.NoiseLaws.{has-room, noise-of-few, noise-of-many, nothing-cleared, part-cleared, lent-found, lent-nothing}
+use mathlib.Core.Bool.{true}
+
+-- there is room
+there : (c : tie.Then1) → let a = c .before .before .before .before .args in hasRoom (length (now (a .area))) (length (now (a .channel))) (a .place) ≡ true
+there c = sym (c .before .has-room .ensures) ∙ c .if1 .taken
 
 has-room-requires : tie.Need-has-room-requires
 has-room-requires c κs = search needs
 
-estimate-requires : tie.Need-estimate-requires
-estimate-requires c κs = has-room _ _ _ (sym (c .before .before .has-room .ensures) ∙ c .before .if1 .taken)
+returns : tie.Need-returns
+unfolding ofBits
+returns c = lent-found (there (c .before)) (noise-of-few _ (c .if2 .taken)) (nothing-cleared _ _ _ (c .if2 .taken))
+
+sub-end : tie.Need-sub-end
+sub-end c = search needs
+
+add-end : tie.Need-add-end
+add-end c = omega (arith, has-room _ _ _ (there (c .before)))
+
+mul-median-difference : tie.Need-mul-median-difference
+mul-median-difference c = omega (arith, has-room _ _ _ (there (c .before)))
+
+sub-median-difference : tie.Need-sub-median-difference
+sub-median-difference c = search needs
+
+part-median-difference-start : tie.Need-part-median-difference-start
+part-median-difference-start c = search needs
+
+part-median-difference-end : tie.Need-part-median-difference-end
+part-median-difference-end c = has-room _ _ _ (there (c .before))
+
+median-difference-requires : tie.Need-median-difference-requires
+median-difference-requires c κs = search needs
+
+range-of-requires : tie.Need-range-of-requires
+range-of-requires c κs = search needs
+
+max-requires : tie.Need-max-requires
+max-requires c κs = search needs
 
 same-length : tie.Need-same-length
 same-length c = search needs
 
-returns : tie.Need-returns
-returns c = lent-found (sym (c .before .before .before .before .before .has-room .ensures) ∙ c .before .before .before .before .if1 .taken) (c .before .before .estimate .ensures .0) (c .before .before .estimate .ensures .1)
-
 returns-2 : tie.Need-returns-2
-returns-2 c = lent-nothing (sym (c .before .has-room .ensures) ∙ c .if1 .left) zero-by-zero
+unfolding spreadOf floorOf ofBits ratio
+returns-2 c = let a = c .before .before .before .before .before .before .before .before .before .before .before .before .args in let e : a .place + (length (now (a .channel)) - 1) - a .place ≡ length (now (a .channel)) - 1 = omega arith in lent-found (there (c .before .before .before .before .before .before .before .before)) (noise-of-many _ _ _ (c .before .before .before .before .before .before .before .if2 .left) (c .before .before .before .before .before .median-difference .ensures .0) (c .max .ensures ∙ ap (λ (r : Range). max (spreadOf (c .before .before .before .before .before .median-difference .result)) (floorOf r)) (c .before .before .range-of .ensures))) (part-cleared _ _ _ _ _ (has-room _ _ _ (there (c .before .before .before .before .before .before .before .before))) e (c .before .before .before .before .before .median-difference .ensures .1))
+
+returns-3 : tie.Need-returns-3
+returns-3 c = lent-nothing (sym (c .before .has-room .ensures) ∙ c .if1 .left) zero-by-zero
 
 pub noise-variance-spec : {M : Type 1} → statement M
 noise-variance-spec =
-    tie.close (tie.spec has-room-requires estimate-requires same-length returns returns-2)
+    tie.close
+    (tie.spec
+    has-room-requires
+    returns
+    sub-end
+    add-end
+    mul-median-difference
+    sub-median-difference
+    part-median-difference-start
+    part-median-difference-end
+    median-difference-requires
+    range-of-requires
+    max-requires
+    same-length
+    returns-2
+    returns-3)
