@@ -6,3 +6,5 @@ pub mod MagnitudeLaws
 pub mod SortLaws
 pub mod MedianLaws
 pub mod NoiseLaws
+pub mod Outcomes
+pub mod Examples
