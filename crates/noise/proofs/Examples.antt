@@ -1,8 +1,8 @@
 -- Noise variances of short channels, by computation: with the wrong middle, NaN first or the floor left out they would differ. The bit patterns are those that the Rust gives. Assumes nothing.
 use mathlib.Core.Path.{_≡_, refl}
 use mathlib.Core.Bool.{true, false}
-use mathlib.Core.List.{List, [], _∷_}
-use lib.Ieee.{Float, nan, binary64, isNan, lt, ne, add, sub, mul, div, ofInt, ofBits}
+use mathlib.Core.List.{[], _∷_}
+use lib.Ieee.{nan, binary64, isNan, lt, ne, add, sub, mul, div, ofInt, ofBits}
 use Rattle.floats.specs.Numbers.{whole, ratio, +0}
 use Rattle.floats.specs.Finite.{abs}
 use Rattle.floats.specs.MaxMin.{max, min}

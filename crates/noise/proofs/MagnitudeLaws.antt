@@ -1,14 +1,14 @@
 -- Magnitudes that stand level in the order are one value. Assumes nothing.
-use Prim.Native.Nat.{ℕ, zero, suc, _+_, _-_, _*_, _/_, _^_, _≤_}
-use mathlib.Core.Path.{_≡_, refl, sym, ap, _∙_, subst}
-use mathlib.Core.Bool.{Bool, true, false, not, _&&_, cond, true≢false, false≢true}
+use Prim.Native.Nat.{ℕ, zero, suc, _+_, _-_, _*_, _/_, _^_}
+use mathlib.Core.Path.{_≡_, refl, sym, ap, _∙_}
+use mathlib.Core.Bool.{Bool, true, false, not, cond, false≢true}
 use native.Mathlib.Omega.{arith}
 use borrow.Author.Tests.{ltb-false, not-true}
 use lib.Dec.{T, ltb}
 use lib.IntN.{ℤ}
-use lib.Ieee.{Float, nan, inf, fin, Format, binary64, prec, low, hid, top, up, down, size, lt, fits, neg, sub, ofBits, toBits}
+use lib.Ieee.{Float, nan, inf, fin, Format, binary64, prec, low, hid, top, up, down, size, lt, fits, sub, ofBits, toBits}
 use lib.Ieee.Bits.{is-true, ofBits-toBits}
-use lib.Ieee.Fits.{down-pos, sub-fits, and-l, and-r}
+use lib.Ieee.Fits.{down-pos, sub-fits}
 use lib.Ieee.Nearest.{div-same}
 use Rattle.floats.specs.Finite.{abs}
 use Rattle.noise.specs.Order.{ahead}

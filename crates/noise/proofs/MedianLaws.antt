@@ -1,19 +1,17 @@
 -- Laws of the median: the loops that write and clear the differences, the middle values, and the median of them. Assumes nothing.
-use Prim.Native.Nat.{ℕ, zero, suc, _+_, _-_, _/_, _%_, _≤_, _<_}
-use mathlib.Core.Path.{_≡_, refl, sym, ap, ap₂, _∙_, subst}
-use mathlib.Core.Bool.{true, false}
+use Prim.Native.Nat.{ℕ, _+_, _-_, _/_, _%_, _<_}
+use mathlib.Core.Path.{_≡_, sym, ap, _∙_, subst}
 use mathlib.Core.List.{List, [], _∷_, _++_}
 use native.Mathlib.Numerals.{add-one}
 use native.Mathlib.Omega.{arith}
 use borrow.Author.Tests.{eq-eqb, ne-eqb}
-use lib.ListN.{length, getD, set, take, replicate, length-replicate, replicate-append-replicate}
+use lib.ListN.{length, getD, set, take, replicate, replicate-append-replicate}
 use lib.Seq.{take-length, take-suc-set}
-use lib.Ieee.{Float, nan, ofBits}
-use Rattle.floats.specs.Numbers.{_+ᶠ_, _*ᶠ_, +0, ratio}
+use lib.Ieee.{Float, nan}
+use Rattle.floats.specs.Numbers.{_+ᶠ_, _*ᶠ_, ratio}
 use Rattle.readings.specs.Parts.{tab}
 use Rattle.readings.proofs.PartLaws.{tab-length, tab-at, tab-more}
 use Rattle.noise.specs.declared.Middles.{Middles}
-use Rattle.noise.specs.Order.{sorted}
 use Rattle.noise.specs.Median.{differenceAt, differences, median}
 use Rattle.noise.specs.Heaps.{Each, Ordered, magnitude, middlesOf}
 use Rattle.noise.proofs.MagnitudeLaws.{difference-magnitude}

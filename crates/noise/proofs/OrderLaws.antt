@@ -1,12 +1,12 @@
 -- The order of differences is a strict weak one: of two values at most one is ahead of the other, and standing level is transitive. Assumes nothing.
 use mathlib.Core.Path.{_≡_, refl, sym, _∙_, subst}
-use mathlib.Core.Bool.{Bool, true, false, not, _||_, _&&_, true≢false, false≢true}
+use mathlib.Core.Bool.{Bool, true, false, not, _||_, true≢false, false≢true}
 use Prim.Native.Nat.{_*_}
 use lib.Dec.{T, eqb, eqb-refl}
-use lib.Ieee.{Float, nan, inf, fin, up, down, lt, le, eq, ne, isNan}
+use lib.Ieee.{Float, nan, inf, fin, up, down, lt, eq, ne, isNan}
 use lib.Ieee.Compare.{differs-from-itself, nan-differs}
-use lib.Ieee.Bits.{is-true, is-false}
-use Rattle.floats.proofs.Order.Laws.{number, lt→le, le-left, le-right, not-lt→le, lt-then-le, lt-not-le}
+use lib.Ieee.Bits.{is-true}
+use Rattle.floats.proofs.Order.Laws.{number, lt→le, not-lt→le, lt-then-le, lt-not-le}
 use Rattle.noise.specs.Order.{ahead}
 
 pub holds : {b : Bool} → b ≡ true → T b

@@ -1,22 +1,14 @@
-use mathlib.Core.Path.{_≡_, refl, sym, ap, _∙_}
-use mathlib.Core.List.{List, [], _∷_, _++_}
-use mathlib.Core.Logic.{⊎-elim}
-use Prim.Native.Nat.{ℕ, suc, _≤_, _<_, _*_, _-_, _+_}
+-- `noise::middle::clear` meets its contract. The loop's invariant: the first i places are +0. Assumes nothing.
+use mathlib.Core.Path.{_≡_, refl, ap, _∙_}
+use Prim.Native.Nat.{ℕ, _≤_, _-_}
 use native.Mathlib.Omega.{arith}
-use native.Mathlib.Numerals.{add-one}
-use native.Mathlib.Nat.{le-antisymm}
-use lib.ListN.{length, getD, take, drop, set, length-set}
-use lib.Ieee.{Float, nan}
+use lib.ListN.{length, take, length-set, replicate}
+use lib.Ieee.{ofBits}
 use borrow.Author.Needs.{needs}
 use Rattle.noise.proofs.middle.clear.Statement.{statement}
-use Rattle.noise.proofs.middle.clear.Tie as tie
-use Rattle.noise.proofs.middle.clear.Reads as reads
-use Rattle.noise.proofs.middle.clear.Lts as lts
-use denote.Ref.{now}
-use lib.ListN.{replicate}
-use lib.Ieee.{ofBits}
 use Rattle.floats.specs.Numbers.{+0}
 use Rattle.noise.proofs.MedianLaws.{cleared-more, whole-front}
+use Rattle.noise.proofs.middle.clear.Tie as tie
 
 abbrev Inv-loop : tie.InvT-loop
 Inv-loop run₀ i₀ run i = (i ≤ length run) × (length run ≡ length run₀) × (take i run ≡ replicate i +0)

@@ -1,22 +1,15 @@
-use mathlib.Core.Path.{_≡_, refl, sym, ap, _∙_}
-use mathlib.Core.List.{List, [], _∷_, _++_}
-use mathlib.Core.Logic.{⊎-elim}
-use Prim.Native.Nat.{ℕ, suc, _≤_, _<_, _*_, _-_, _+_}
+-- `noise::middle::difference` meets its contract. The loop's invariant: the first i differences are written. Assumes nothing.
+use mathlib.Core.Path.{_≡_, refl, ap, _∙_}
+use Prim.Native.Nat.{_≤_, _-_, _+_}
 use native.Mathlib.Omega.{arith}
-use native.Mathlib.Numerals.{add-one}
-use native.Mathlib.Nat.{le-antisymm}
-use lib.ListN.{length, getD, take, drop, set, length-set}
-use lib.Ieee.{Float, nan}
+use lib.ListN.{length, take, length-set}
 use borrow.Author.Needs.{needs}
 use Rattle.noise.proofs.middle.difference.Statement.{statement}
-use Rattle.noise.proofs.middle.difference.Tie as tie
-use Rattle.noise.proofs.middle.difference.Reads as reads
-use Rattle.noise.proofs.middle.difference.Lts as lts
-use Rattle.floats.proofs.abs.Reads as abs-reads
 use denote.Ref.{now}
 use Rattle.readings.specs.Parts.{tab}
 use Rattle.noise.specs.Median.{differenceAt, differences}
 use Rattle.noise.proofs.MedianLaws.{differences-more, whole-front}
+use Rattle.noise.proofs.middle.difference.Tie as tie
 
 abbrev Inv-loop : tie.InvT-loop
 Inv-loop channel run₀ i₀ run i = (i ≤ length run) × (length run ≡ length run₀) × (length run + 1 ≡ length channel) × (take i run ≡ tab (differenceAt channel) i)

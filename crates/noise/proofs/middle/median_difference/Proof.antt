@@ -1,28 +1,36 @@
-use mathlib.Core.Path.{_≡_, refl, sym, ap, _∙_}
-use mathlib.Core.List.{List, [], _∷_, _++_}
-use mathlib.Core.Logic.{⊎-elim}
-use Prim.Native.Nat.{ℕ, suc, _≤_, _<_, _*_, _-_, _+_}
+-- `noise::middle::median_difference` meets its contract. Assumes nothing.
+use mathlib.Core.List.{List}
+use lib.Ieee.{Float, ofBits}
+use mathlib.Core.Path.{_≡_, ap, _∙_}
+use Prim.Native.Nat.{ℕ}
 use native.Mathlib.Omega.{arith}
-use native.Mathlib.Numerals.{add-one}
-use native.Mathlib.Nat.{le-antisymm}
-use lib.ListN.{length, getD, take, drop, set, length-set}
-use lib.Ieee.{Float, nan}
+use lib.ListN.{length, replicate}
 use borrow.Author.Needs.{needs}
 use Rattle.noise.proofs.middle.median_difference.Statement.{statement}
-use Rattle.noise.proofs.middle.median_difference.Tie as tie
-use Rattle.noise.proofs.middle.median_difference.Reads as reads
-use Rattle.noise.proofs.middle.median_difference.Lts as lts
-use Rattle.noise.proofs.middle.clear.Reads as clear-reads
-use Rattle.noise.proofs.middle.difference.Reads as difference-reads
-use Rattle.noise.proofs.middle.middles.Reads as middles-reads
 use denote.Ref.{now}
-use Rattle.noise.proofs.MedianLaws.{differences-ready, odd-median, even-median}
-use lib.ListN.{replicate}
-use lib.Ieee.{ofBits}
+use Rattle.noise.proofs.MedianLaws.{differences-ready, odd-median, even-median, differences-length}
 use Rattle.floats.specs.Numbers.{+0, ratio}
 use Rattle.noise.specs.Median.{differences}
 use Rattle.noise.specs.Heaps.{middlesOf}
-use Rattle.noise.proofs.MedianLaws.{differences-length}
+use Rattle.noise.proofs.middle.median_difference.Tie as tie
+
+-- where the run is cleared: the middle values are those of the differences, the run is as long as they are, and it is +0
+module _ (c : tie.After-slice-known4) where
+  channel : List Float
+  channel = now (c .before .before .before .before .before .before .before .before .before .before .before .before .before .before .args .channel)
+
+  found : c .before .before .before .before .before .before .middles .result ≡ middlesOf (differences channel)
+  unfolding channel
+  found = c .before .before .before .before .before .before .middles .ensures ∙ ap middlesOf (c .before .before .before .before .before .before .before .before .before .before .difference .ensures)
+
+  counted : length (c .before .before .clear .last .0) ≡ length (differences channel)
+  unfolding channel
+  counted = omega (arith, differences-length (now (c .before .before .before .before .before .before .before .before .before .before .before .before .before .before .args .channel)), c .before .before .before .before .before .before .before .before .before .before .before .before .before .before .pre .0)
+
+  wiped : c .before .before .clear .last .0 ≡ replicate (length (now (c .before .before .before .before .before .before .before .before .before .before .before .before .before .before .args .run))) +0
+  wiped =
+      let l : length (c .before .before .before .before .before .before .middles .last .0) ≡ length (now (c .before .before .before .before .before .before .before .before .before .before .before .before .before .before .args .run)) = omega arith in
+      c .before .before .clear .ensures ∙ ap (λ (n : ℕ). replicate n +0) l
 
 difference-requires : tie.Need-difference-requires
 difference-requires c κs = search needs
@@ -37,14 +45,15 @@ same-length : tie.Need-same-length
 same-length c = search needs
 
 returns : tie.Need-returns
-returns c = let l : length (c .before .before .before .before .before .before .before .middles .last .0) ≡ length (now (c .before .before .before .before .before .before .before .before .before .before .before .before .before .before .before .args .run)) = omega arith in (odd-median (differences (now (c .before .before .before .before .before .before .before .before .before .before .before .before .before .before .before .args .channel))) (c .before .before .before .before .before .before .before .middles .result) (length (c .before .before .before .clear .last .0)) (c .before .before .before .before .before .before .before .middles .ensures ∙ ap middlesOf (c .before .before .before .before .before .before .before .before .before .before .before .difference .ensures)) (omega (arith, differences-length (now (c .before .before .before .before .before .before .before .before .before .before .before .before .before .before .before .args .channel)), c .before .before .before .before .before .before .before .before .before .before .before .before .before .before .before .pre .0)) (c .if1 .taken), c .before .before .before .clear .ensures ∙ ap (λ (n : ℕ). replicate n +0) l)
+unfolding channel
+returns c = (odd-median _ _ _ (found (c .before)) (counted (c .before)) (c .if1 .taken), wiped (c .before))
 
 same-length-2 : tie.Need-same-length-2
 same-length-2 c = search needs
 
 returns-2 : tie.Need-returns-2
-unfolding ofBits ratio
-returns-2 c = let l : length (c .before .before .before .before .before .before .before .before .middles .last .0) ≡ length (now (c .before .before .before .before .before .before .before .before .before .before .before .before .before .before .before .before .args .run)) = omega arith in (even-median (differences (now (c .before .before .before .before .before .before .before .before .before .before .before .before .before .before .before .before .args .channel))) (c .before .before .before .before .before .before .before .before .middles .result) (length (c .before .before .before .before .clear .last .0)) (c .before .before .before .before .before .before .before .before .middles .ensures ∙ ap middlesOf (c .before .before .before .before .before .before .before .before .before .before .before .before .difference .ensures)) (omega (arith, differences-length (now (c .before .before .before .before .before .before .before .before .before .before .before .before .before .before .before .before .args .channel)), c .before .before .before .before .before .before .before .before .before .before .before .before .before .before .before .before .pre .0)) (c .before .if1 .left), c .before .before .before .before .clear .ensures ∙ ap (λ (n : ℕ). replicate n +0) l)
+unfolding channel ofBits ratio
+returns-2 c = (even-median _ _ _ (found (c .before .before)) (counted (c .before .before)) (c .before .if1 .left), wiped (c .before .before))
 
 pub median-difference-spec : {M : Type 1} → statement M
 median-difference-spec =

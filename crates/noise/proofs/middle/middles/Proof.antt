@@ -1,20 +1,8 @@
-use mathlib.Core.Path.{_≡_, refl, sym, ap, _∙_}
-use mathlib.Core.List.{List, [], _∷_, _++_}
-use mathlib.Core.Logic.{⊎-elim}
-use Prim.Native.Nat.{ℕ, suc, _≤_, _<_, _*_, _-_, _+_}
-use native.Mathlib.Omega.{arith}
-use native.Mathlib.Numerals.{add-one}
-use native.Mathlib.Nat.{le-antisymm}
-use lib.ListN.{length, getD, take, drop, set, length-set}
-use lib.Ieee.{Float, nan}
+-- `noise::middle::middles` meets its contract. Assumes nothing.
 use borrow.Author.Needs.{needs}
 use Rattle.noise.proofs.middle.middles.Statement.{statement}
-use Rattle.noise.proofs.middle.middles.Tie as tie
-use Rattle.noise.proofs.middle.middles.Reads as reads
-use Rattle.noise.proofs.middle.middles.Lts as lts
-use Rattle.noise.proofs.heap.sort.Reads as sort-reads
-use denote.Ref.{now}
 use Rattle.noise.proofs.MedianLaws.{middles-found}
+use Rattle.noise.proofs.middle.middles.Tie as tie
 
 sort-requires : tie.Need-sort-requires
 sort-requires c κs = search needs

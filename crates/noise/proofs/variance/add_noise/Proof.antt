@@ -1,26 +1,16 @@
-use mathlib.Core.Path.{_≡_, refl, sym, ap, _∙_}
-use mathlib.Core.List.{List, [], _∷_, _++_}
-use mathlib.Core.Logic.{⊎-elim}
-use Prim.Native.Nat.{ℕ, suc, _≤_, _<_, _*_, _-_, _+_}
+-- `noise::variance::add_noise` meets its contract. The loop's invariant: the sum of the first k channels, and the area as the loop found it. Assumes nothing.
+use mathlib.Core.Path.{_≡_, refl, ap, _∙_}
+use mathlib.Core.List.{_++_}
+use Prim.Native.Nat.{_≤_, _-_, _+_}
 use native.Mathlib.Omega.{arith}
-use native.Mathlib.Numerals.{add-one}
-use native.Mathlib.Nat.{le-antisymm}
-use lib.ListN.{length, getD, take, drop, set, length-set}
-use lib.Ieee.{Float, nan}
+use lib.ListN.{length, take, drop}
+use lib.Ieee.{ofBits}
 use borrow.Author.Needs.{needs}
 use Rattle.noise.proofs.variance.add_noise.Statement.{statement}
-use Rattle.noise.proofs.variance.add_noise.Tie as tie
-use Rattle.noise.proofs.variance.add_noise.Reads as reads
-use Rattle.noise.proofs.variance.add_noise.Lts as lts
-use Rattle.noise.proofs.middle.clear.Reads as clear-reads
-use Rattle.noise.proofs.variance.noise_variance.Reads as noise-variance-reads
-use Rattle.noise.proofs.variance.steps.Reads as steps-reads
-use Rattle.readings.proofs.channel.Reads as channel-reads
 use denote.Ref.{now}
-use lib.Ieee.{ofBits}
 use Rattle.noise.specs.Noise.{noiseSumTo, cleared}
-use Rattle.noise.proofs.NoiseLaws.{has-room, part-cleared, channel-lent, sum-more}
-use Rattle.noise.proofs.NoiseLaws.{cleared-length}
+use Rattle.noise.proofs.NoiseLaws.{has-room, part-cleared, channel-lent, sum-more, cleared-length}
+use Rattle.noise.proofs.variance.add_noise.Tie as tie
 
 abbrev Inv-loop : tie.InvT-loop
 Inv-loop run n channels area₀ place end sum₀ k₀ area sum k = (k ≤ channels) × (sum ≡ noiseSumTo run n k) × (area ≡ area₀)

@@ -1,20 +1,11 @@
-use mathlib.Core.Path.{_≡_, refl, sym, ap, _∙_}
-use mathlib.Core.List.{List, [], _∷_, _++_}
-use mathlib.Core.Logic.{⊎-elim}
-use Prim.Native.Nat.{ℕ, suc, _≤_, _<_, _*_, _-_, _+_}
-use native.Mathlib.Omega.{arith}
-use native.Mathlib.Numerals.{add-one}
-use native.Mathlib.Nat.{le-antisymm}
-use lib.ListN.{length, getD, take, drop, set, length-set}
-use lib.Ieee.{Float, nan}
+-- `noise::variance::has_room` meets its contract. Assumes nothing.
+use mathlib.Core.Path.{ap, _∙_}
+use Prim.Native.Nat.{ℕ, _-_}
 use borrow.Author.Needs.{needs}
 use Rattle.noise.proofs.variance.has_room.Statement.{statement}
-use Rattle.noise.proofs.variance.has_room.Tie as tie
-use Rattle.noise.proofs.variance.has_room.Reads as reads
-use Rattle.noise.proofs.variance.has_room.Lts as lts
-use Rattle.noise.proofs.variance.steps.Reads as steps-reads
 use Rattle.noise.proofs.NoiseLaws.{room-left, no-room}
 use lib.Dec.{leb}
+use Rattle.noise.proofs.variance.has_room.Tie as tie
 
 steps-requires : tie.Need-steps-requires
 steps-requires c κs = search needs

@@ -1,21 +1,10 @@
-use mathlib.Core.Path.{_≡_, refl, sym, ap, _∙_}
-use mathlib.Core.List.{List, [], _∷_, _++_}
-use mathlib.Core.Logic.{⊎-elim}
-use Prim.Native.Nat.{ℕ, suc, _≤_, _<_, _*_, _-_, _+_}
-use native.Mathlib.Omega.{arith}
-use native.Mathlib.Numerals.{add-one}
-use native.Mathlib.Nat.{le-antisymm}
-use lib.ListN.{length, getD, take, drop, set, length-set}
-use lib.Ieee.{Float, nan}
+-- `noise::variance::noise_sum` meets its contract. With room and without. Assumes nothing.
+use mathlib.Core.Path.{sym, _∙_}
 use borrow.Author.Needs.{needs}
 use Rattle.noise.proofs.variance.noise_sum.Statement.{statement}
-use Rattle.noise.proofs.variance.noise_sum.Tie as tie
-use Rattle.noise.proofs.variance.noise_sum.Reads as reads
-use Rattle.noise.proofs.variance.noise_sum.Lts as lts
-use Rattle.noise.proofs.variance.add_noise.Reads as add-noise-reads
-use Rattle.noise.proofs.variance.has_room.Reads as has-room-reads
 use Rattle.floats.proofs.Order.Zero.{zero-by-zero}
 use Rattle.noise.proofs.NoiseLaws.{lent-found, lent-nothing}
+use Rattle.noise.proofs.variance.noise_sum.Tie as tie
 
 has-room-requires : tie.Need-has-room-requires
 has-room-requires c κs = search needs

@@ -1,23 +1,12 @@
-use mathlib.Core.Path.{_≡_, refl, sym, ap, _∙_}
-use mathlib.Core.List.{List, [], _∷_, _++_}
-use mathlib.Core.Logic.{⊎-elim}
-use Prim.Native.Nat.{ℕ, suc, _≤_, _<_, _*_, _-_, _+_}
+-- `noise::variance::noise_variance` meets its contract. With room and without. Assumes nothing.
+use mathlib.Core.Path.{_≡_, sym, ap, _∙_}
+use Prim.Native.Nat.{_-_, _+_}
 use native.Mathlib.Omega.{arith}
-use native.Mathlib.Numerals.{add-one}
-use native.Mathlib.Nat.{le-antisymm}
-use lib.ListN.{length, getD, take, drop, set, length-set}
-use lib.Ieee.{Float, nan}
+use lib.ListN.{length}
+use lib.Ieee.{ofBits}
 use borrow.Author.Needs.{needs}
 use Rattle.noise.proofs.variance.noise_variance.Statement.{statement}
-use Rattle.noise.proofs.variance.noise_variance.Tie as tie
-use Rattle.noise.proofs.variance.noise_variance.Reads as reads
-use Rattle.noise.proofs.variance.noise_variance.Lts as lts
-use Rattle.floats.proofs.max.Reads as max-reads
-use Rattle.noise.proofs.middle.median_difference.Reads as median-difference-reads
-use Rattle.noise.proofs.variance.has_room.Reads as has-room-reads
-use Rattle.sums.proofs.range_of.Reads as range-of-reads
 use denote.Ref.{now}
-use lib.Ieee.{ofBits}
 use Rattle.floats.specs.Numbers.{ratio}
 use Rattle.floats.specs.MaxMin.{max}
 use Rattle.floats.proofs.Order.Zero.{zero-by-zero}
@@ -25,6 +14,7 @@ use Rattle.sums.specs.declared.Range.{Range}
 use Rattle.noise.specs.Noise.{spreadOf, floorOf, hasRoom}
 use Rattle.noise.proofs.NoiseLaws.{has-room, noise-of-few, noise-of-many, nothing-cleared, part-cleared, lent-found, lent-nothing}
 use mathlib.Core.Bool.{true}
+use Rattle.noise.proofs.variance.noise_variance.Tie as tie
 
 -- there is room
 there : (c : tie.Then1) → let a = c .before .before .before .before .args in hasRoom (length (now (a .area))) (length (now (a .channel))) (a .place) ≡ true
