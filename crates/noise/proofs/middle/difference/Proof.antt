@@ -53,14 +53,25 @@ loop-less c = simp length-set (omega arith)
 
 loop-again : tie.Need-loop-again Inv-loop μ-loop
 unfolding differenceAt
-loop-again c = (simp length-set (omega arith), simp length-set (c .before .before .before .before .loop .inv .1), simp length-set (c .before .before .before .before .loop .inv .2), differences-more (now (c .before .before .before .before .before .before .before .args .channel)) _ _ _ (c .before .before .before .loop-test .taken) (c .abs .ensures) (c .before .before .before .before .loop .inv .3))
+loop-again c =
+    let inv = c .before .before .before .before .loop .inv in
+    let channel = now (c .before .before .before .before .before .before .before .args .channel) in (
+      simp length-set (omega arith),
+      simp length-set (inv .1),
+      simp length-set (inv .2),
+      differences-more channel _ _ _ (c .before .before .before .loop-test .taken) (c .abs .ensures) (inv .3),
+    )
 
 same-length : tie.Need-same-length Inv-loop μ-loop
 same-length c = c .before .loop .inv .1
 
 returns : tie.Need-returns Inv-loop μ-loop
 unfolding differences
-returns c = let e : c .before .loop .i ≡ length (c .before .loop .run) = omega arith in let f : c .before .loop .i ≡ length (now (c .before .before .before .before .args .channel)) - 1 = omega arith in whole-front _ _ _ e (c .before .loop .inv .3) ∙ ap (tab (differenceAt (now (c .before .before .before .before .args .channel)))) f
+returns c =
+    let channel = now (c .before .before .before .before .args .channel) in
+    let e : c .before .loop .i ≡ length (c .before .loop .run) = omega arith in
+    let f : c .before .loop .i ≡ length channel - 1 = omega arith in
+    whole-front _ _ _ e (c .before .loop .inv .3) ∙ ap (tab (differenceAt channel)) f
 
 pub difference-spec : {M : Type 1} → statement M
 difference-spec =

@@ -64,13 +64,21 @@ loop-less : tie.Need-loop-less Inv-loop μ-loop
 loop-less c = search needs
 
 loop-again : tie.Need-loop-again Inv-loop μ-loop
-loop-again c = let l = channel-lent _ _ _ _ _ _ _ _ _ _ (c .before .before .before .before .before .before .before .before .before .before .before .before .before .before .pre) (emptied (c .before .before .before .before .before .before .before)) (c .before .before .before .before .before .before .loop .inv .2) (c .before .before .before .before .channel .ensures) (c .before .before .noise-variance .ensures) in (search needs, sum-more _ _ _ _ _ _ (c .before .before .before .before .before .before .loop .inv .1) (c .before .before .before .before .channel .ensures) (l .0), l .1)
+loop-again c =
+    let loop = c .before .before .before .before .before .before .loop in
+    let l =
+    channel-lent _ _ _ _ _ _ _ _ _ _ (c .before .before .before .before .before .before .before .before .before .before .before .before .before .before .pre) (emptied (c .before .before .before .before .before .before .before)) (loop .inv .2) (c .before .before .before .before .channel .ensures) (c .before .before .noise-variance .ensures) in
+    (search needs, sum-more _ _ _ _ _ _ (loop .inv .1) (c .before .before .before .before .channel .ensures) (l .0), l .1)
 
 same-length : tie.Need-same-length Inv-loop μ-loop
 same-length c = ap length (c .before .loop .inv .2 ∙ emptied (c .before .before)) ∙ cleared-length _ _ _ (has-room _ _ _ (c .before .before .before .before .before .before .before .before .before .pre))
 
 returns : tie.Need-returns Inv-loop μ-loop
-returns c = let e : c .before .loop .k ≡ c .before .before .before .before .before .before .before .before .before .args .channels = omega arith in (c .before .loop .inv .1 ∙ ap (noiseSumTo (now (c .before .before .before .before .before .before .before .before .before .args .run)) (c .before .before .before .before .before .before .before .before .before .args .n)) e, c .before .loop .inv .2 ∙ emptied (c .before .before))
+returns c =
+    let a = c .before .before .before .before .before .before .before .before .before .args in
+    let loop = c .before .loop in
+    let e : loop .k ≡ a .channels = omega arith in
+    (loop .inv .1 ∙ ap (noiseSumTo (now (a .run)) (a .n)) e, loop .inv .2 ∙ emptied (c .before .before))
 
 pub add-noise-spec : {M : Type 1} → statement M
 add-noise-spec =

@@ -59,7 +59,14 @@ same-length c = search needs
 
 returns-2 : tie.Need-returns-2
 unfolding spreadOf floorOf ofBits ratio
-returns-2 c = let a = c .before .before .before .before .before .before .before .before .before .before .before .before .args in let e : a .place + (length (now (a .channel)) - 1) - a .place ≡ length (now (a .channel)) - 1 = omega arith in lent-found (there (c .before .before .before .before .before .before .before .before)) (noise-of-many _ _ _ (c .before .before .before .before .before .before .before .if2 .left) (c .before .before .before .before .before .median-difference .ensures .0) (c .max .ensures ∙ ap (λ (r : Range). max (spreadOf (c .before .before .before .before .before .median-difference .result)) (floorOf r)) (c .before .before .range-of .ensures))) (part-cleared _ _ _ _ _ (has-room _ _ _ (there (c .before .before .before .before .before .before .before .before))) e (c .before .before .before .before .before .median-difference .ensures .1))
+returns-2 c =
+    let a = c .before .before .before .before .before .before .before .before .before .before .before .before .args in
+    let m = c .before .before .before .before .before .median-difference in
+    let e : a .place + (length (now (a .channel)) - 1) - a .place ≡ length (now (a .channel)) - 1 = omega arith in
+    let f = c .max .ensures ∙ ap (λ (r : Range). max (spreadOf (m .result)) (floorOf r)) (c .before .before .range-of .ensures) in
+    lent-found (there (c .before .before .before .before .before .before .before .before))
+    (noise-of-many _ _ _ (c .before .before .before .before .before .before .before .if2 .left) (m .ensures .0) f)
+    (part-cleared _ _ _ _ _ (has-room _ _ _ (there (c .before .before .before .before .before .before .before .before))) e (m .ensures .1))
 
 returns-3 : tie.Need-returns-3
 returns-3 c = lent-nothing (sym (c .before .has-room .ensures) ∙ c .if1 .left) zero-by-zero
