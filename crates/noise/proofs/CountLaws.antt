@@ -15,12 +15,12 @@ use Rattle.noise.specs.Heaps.{count, Same, Each, swapped}
 abbrev pub one : Bool → ℕ
 one b = cond b 1 0
 
-pub count-append : (p : Float → Bool) (xs ys : List Float) → count p (xs ++ ys) ≡ count p xs + count p ys
+count-append : (p : Float → Bool) (xs ys : List Float) → count p (xs ++ ys) ≡ count p xs + count p ys
 unfolding count
 count-append p [] ys = omega arith
 count-append p (x ∷ xs) ys = rw (count-append p xs ys) (omega arith)
 
-pub count-set : (p : Float → Bool) (xs : List Float) (i : ℕ) (v : Float) → i < length xs → count p (set xs i v) + one (p (getD xs i nan)) ≡ count p xs + one (p v)
+count-set : (p : Float → Bool) (xs : List Float) (i : ℕ) (v : Float) → i < length xs → count p (set xs i v) + one (p (getD xs i nan)) ≡ count p xs + one (p v)
 unfolding count
 count-set p [] i v h = absurd (not-suc-le-zero h)
 count-set p (x ∷ xs) zero v h = omega arith

@@ -35,7 +35,7 @@ pub differences-length : (channel : List Float) → length (differences channel)
 unfolding differences
 differences-length channel = tab-length (differenceAt channel) (length channel - 1)
 
-pub differences-magnitudes : (channel : List Float) → Each magnitude (differences channel)
+differences-magnitudes : (channel : List Float) → Each magnitude (differences channel)
 unfolding differences differenceAt
 differences-magnitudes channel =
     record {

@@ -111,7 +111,7 @@ lent-found e p q = record { answer = rw e p; area = rw e q }
 pub lent-nothing : {value r : Float} {n place : ℕ} {before : List Float} → hasRoom (length before) n place ≡ false → r ≡ nan → Lent value n place before before r
 lent-nothing e p = record { answer = rw e p; area = rw e refl }
 
-pub lent-there : {value r : Float} {n place : ℕ} {before after : List Float} → hasRoom (length before) n place ≡ true → Lent value n place before after r → (r ≡ value) × (after ≡ cleared before n place)
+lent-there : {value r : Float} {n place : ℕ} {before after : List Float} → hasRoom (length before) n place ≡ true → Lent value n place before after r → (r ≡ value) × (after ≡ cleared before n place)
 lent-there {value} {r} {n} {place} {before} {after} e l =
     (l .answer ∙ ap (λ (b : Bool). cond b value nan) e, l .area ∙ ap (λ (b : Bool). cond b (cleared before n place) before) e)
 
