@@ -1,0 +1,66 @@
+-- Noise variances of short channels, by computation: with the wrong middle, NaN first or the floor left out they would differ. The bit patterns are those that the Rust gives. Assumes nothing.
+use mathlib.Core.Path.{_≡_, refl}
+use mathlib.Core.Bool.{true, false}
+use mathlib.Core.List.{[], _∷_}
+use lib.Ieee.{nan, binary64, isNan, lt, ne, add, sub, mul, div, ofInt, ofBits}
+use Rattle.floats.specs.Numbers.{whole, ratio, +0}
+use Rattle.floats.specs.Finite.{abs}
+use Rattle.floats.specs.MaxMin.{max, min}
+use Rattle.readings.specs.Parts.{part, tab}
+use Rattle.readings.specs.Channels.{hasChannel, channelOf}
+use Rattle.sums.specs.Extremes.{lowestTo, highestTo, rangeOf}
+use Rattle.noise.specs.Order.{ahead, insert, sorted}
+use Rattle.noise.specs.Median.{differenceAt, differences, median}
+use Rattle.noise.specs.Noise.{spreadOf, floorOf, noise, noiseSumTo, hasRoom, cleared}
+
+-- differences 3 1 2: the middle one is 2
+odd-count : noise (whole 0 ∷ whole 3 ∷ whole 4 ∷ whole 6 ∷ []) ≡ ofBits binary64 0x4011959752db3ec6
+unfolding noise spreadOf floorOf rangeOf lowestTo highestTo max min median differences differenceAt tab abs sorted insert ahead isNan ratio ofBits lt ne add sub mul div ofInt
+odd-count = refl
+
+-- differences 2 1: half their sum is 1.5
+even-count : noise (whole 0 ∷ whole 2 ∷ whole 3 ∷ []) ≡ ofBits binary64 0x4003c84a3d36a69f
+unfolding noise spreadOf floorOf rangeOf lowestTo highestTo max min median differences differenceAt tab abs sorted insert ahead isNan ratio ofBits lt ne add sub mul div ofInt
+even-count = refl
+
+-- differences NaN NaN 1 2 2, of which the NaNs stand last: the middle one is 2
+nan-last : noise (whole 0 ∷ nan ∷ whole 4 ∷ whole 5 ∷ whole 3 ∷ whole 1 ∷ []) ≡ ofBits binary64 0x4011959752db3ec6
+unfolding noise spreadOf floorOf rangeOf lowestTo highestTo max min median differences differenceAt tab abs sorted insert ahead isNan ratio ofBits lt ne add sub mul div ofInt
+nan-last = refl
+
+-- differences 0 0 0 8: their median is 0, and 1e-6 times the range of 8 stands in for it
+the-floor : noise (whole 0 ∷ whole 0 ∷ whole 0 ∷ whole 0 ∷ whole 8 ∷ []) ≡ ofBits binary64 0x3dd19799812dea11
+unfolding noise spreadOf floorOf rangeOf lowestTo highestTo max min median differences differenceAt tab abs sorted insert ahead isNan ratio ofBits lt ne add sub mul div ofInt
+the-floor = refl
+
+-- a channel that never changes has none
+constant : noise (whole 5 ∷ whole 5 ∷ whole 5 ∷ whole 5 ∷ []) ≡ +0
+unfolding noise spreadOf floorOf rangeOf lowestTo highestTo max min median differences differenceAt tab abs sorted insert ahead isNan ratio ofBits lt ne add sub mul div ofInt
+constant = refl
+
+-- nor has one with a single reading, or with none
+one-reading : noise (whole 7 ∷ []) ≡ +0
+unfolding noise
+one-reading = refl
+
+no-reading : noise [] ≡ +0
+unfolding noise
+no-reading = refl
+
+-- two channels, the second without noise, and a third that is not there
+two-channels : noiseSumTo (whole 0 ∷ whole 3 ∷ whole 4 ∷ whole 6 ∷ whole 5 ∷ whole 5 ∷ whole 5 ∷ whole 5 ∷ []) 4 3 ≡ ofBits binary64 0x4011959752db3ec6
+unfolding noise spreadOf floorOf rangeOf lowestTo highestTo max min median differences differenceAt tab abs sorted insert ahead isNan ratio ofBits lt ne add sub mul div ofInt noiseSumTo channelOf hasChannel part
+two-channels = refl
+
+-- the differences of 3 readings at place 1 of an area: two places are cleared, and room for them is exact
+cleared-places : cleared (whole 9 ∷ whole 9 ∷ whole 9 ∷ whole 9 ∷ []) 3 1 ≡ whole 9 ∷ +0 ∷ +0 ∷ whole 9 ∷ []
+unfolding cleared
+cleared-places = refl
+
+exact-room : hasRoom 3 3 1 ≡ true
+unfolding hasRoom
+exact-room = refl
+
+one-short : hasRoom 2 3 1 ≡ false
+unfolding hasRoom
+one-short = refl

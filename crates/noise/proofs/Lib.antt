@@ -1,0 +1,10 @@
+pub mod OrderLaws
+pub mod CountLaws
+pub mod HeapLaws
+pub mod DrainLaws
+pub mod MagnitudeLaws
+pub mod SortLaws
+pub mod MedianLaws
+pub mod NoiseLaws
+pub mod Outcomes
+pub mod Examples

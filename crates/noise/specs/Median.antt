@@ -1,0 +1,27 @@
+-- The median of the magnitudes of a channel's first differences. Definitions only.
+use Prim.Native.Nat.{ℕ, _+_, _-_, _/_, _%_}
+use mathlib.Core.Bool.{cond}
+use mathlib.Core.List.{List}
+use lib.Dec.{eqb}
+use lib.ListN.{length, getD}
+use lib.Ieee.{Float, nan}
+use Rattle.floats.specs.Numbers.{_+ᶠ_, _-ᶠ_, _*ᶠ_, ratio}
+use Rattle.floats.specs.Finite.{abs}
+use Rattle.readings.specs.Parts.{tab}
+use Rattle.noise.specs.Order.{sorted}
+
+-- the magnitude of the difference between reading i + 1 and reading i
+unfoldable pub differenceAt : List Float → ℕ → Float
+differenceAt xs i = abs (getD xs (i + 1) nan -ᶠ getD xs i nan)
+
+-- one for each reading but the first
+unfoldable pub differences : List Float → List Float
+differences xs = tab (differenceAt xs) (length xs - 1)
+
+-- of the list in order: the middle one of an odd count, 0.5 times the sum of the two middle ones of an even one
+unfoldable pub median : List Float → Float
+median xs =
+    let half = length xs / 2 in
+    cond (eqb (length xs % 2) 1)
+    (getD (sorted xs) half nan)
+    (ratio 1 2 *ᶠ (getD (sorted xs) (half - 1) nan +ᶠ getD (sorted xs) half nan))

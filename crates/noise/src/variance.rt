@@ -1,0 +1,78 @@
+// The noise variance.
+ghost use mathlib.Core.Path.{_≡_};
+ghost use mathlib.Core.Bool.{true};
+ghost use Prim.Native.Nat.{_-_};
+ghost use lib.ListN.{length};
+ghost use Rattle.noise.specs.Noise.{hasRoom, noise, noiseSumTo, cleared, Lent};
+use crate::middle::clear;
+use crate::middle::median_difference;
+use floats::max;
+use readings::channel;
+use sums::range_of;
+
+// How many differences n readings have.
+fn steps(n: usize) -> usize
+    ensures { λ r. ⌜ r ≡ n - 1 ⌝ }
+{
+    if 0 < n {
+        return n - 1;
+    }
+    0
+}
+
+// Whether an area of so many places has room for the differences of n readings from a place on; no sum
+// is formed that could wrap.
+fn has_room(size: usize, n: usize, place: usize) -> bool
+    ensures { λ r. ⌜ r ≡ hasRoom size n place ⌝ }
+{
+    if place <= size {
+        return steps(n) <= size - place;
+    }
+    false
+}
+
+// The noise variance of a channel, worked out in a run of the area from a place on.
+pub fn noise_variance(channel: &[f64], area: &mut [f64], place: usize) -> f64
+    ensures { λ r. ⌜ Lent (noise (now (channel .entry))) (length (now (channel .entry))) place (now (area .entry)) (now (area .exit)) r ⌝ }
+{
+    if has_room(area.len(), channel.len(), place) {
+        if channel.len() < 2 {
+            return 0.0;
+        }
+        let end = place + (channel.len() - 1);
+        let median = median_difference(channel, &mut area[place..end]);
+        let range = range_of(channel);
+        let sigma = median / (0.6745 * 1.4142135623730951);
+        let least = max(sigma, 0.000001 * (range.hi - range.lo));
+        return least * least;
+    }
+    0.0 / 0.0
+}
+
+// The noise variances added from +0 on. The places are cleared first, for there may be no channel that
+// does it. Cost: one turn for each channel.
+fn add_noise(run: &[f64], n: usize, channels: usize, area: &mut [f64], place: usize) -> f64
+    requires { ⌜ hasRoom (length (now area)) n place ≡ true ⌝ }
+    ensures { λ r. ⌜ (r ≡ noiseSumTo (now (run .entry)) n channels) × (now (area .exit) ≡ cleared (now (area .entry)) n place) ⌝ }
+{
+    let end = place + steps(n);
+    clear(&mut area[place..end]);
+    let mut sum = 0.0;
+    let mut k = 0;
+    while k < channels {
+        sum = sum + noise_variance(channel(run, n, k), area, place);
+        k += 1;
+    }
+    sum
+}
+
+// The noise variances of channels 0 to channels - 1 of a run with so many readings each, added in that
+// order; all are worked out in the same run of the area.
+pub fn noise_sum(run: &[f64], length: usize, channels: usize, area: &mut [f64], place: usize) -> f64
+    ensures { λ r. ⌜ Lent (noiseSumTo (now (run .entry)) length channels) length place (now (area .entry)) (now (area .exit)) r ⌝ }
+{
+    if has_room(area.len(), length, place) {
+        return add_noise(run, length, channels, area, place);
+    }
+    0.0 / 0.0
+}
