@@ -1,0 +1,3 @@
+pub mod BoxLaws
+pub mod CutLaws
+pub mod BallLaws

@@ -1,0 +1,63 @@
+use mathlib.Core.Path.{_≡_, refl, sym, ap, _∙_}
+use mathlib.Core.List.{List, [], _∷_, _++_}
+use mathlib.Core.Logic.{⊎-elim}
+use Prim.Native.Nat.{ℕ, suc, _≤_, _<_, _*_, _-_, _+_}
+use native.Mathlib.Omega.{arith}
+use native.Mathlib.Numerals.{add-one}
+use native.Mathlib.Nat.{le-antisymm}
+use lib.ListN.{length, getD, take, drop, set, length-set}
+use lib.Ieee.{Float, nan}
+use borrow.Author.Needs.{needs}
+use Rattle.candidate.proofs.balls.lose.Statement.{statement}
+use Rattle.candidate.proofs.balls.lose.Tie as tie
+use Rattle.candidate.proofs.balls.lose.Reads as reads
+use Rattle.candidate.proofs.balls.lose.Lts as lts
+use Rattle.candidate.proofs.balls.displace.Reads as displace-reads
+use Rattle.candidate.proofs.balls.kept.Reads as kept-reads
+use Rattle.candidate.proofs.balls.put_ball.Reads as put-ball-reads
+use Rattle.candidate.proofs.BallLaws.{with-empty, with-room, with-full}
+use lib.Ieee.{ofBits}
+
+returns : tie.Need-returns
+unfolding ofBits
+returns c = with-empty _ _ _ _ _ (c .if1 .taken)
+
+kept-requires : tie.Need-kept-requires
+kept-requires c κs = search needs
+
+put-ball-requires : tie.Need-put-ball-requires
+put-ball-requires c κs = search needs
+
+add-result : tie.Need-add-result
+add-result c = search needs
+
+same-length : tie.Need-same-length
+same-length c = search needs
+
+returns-2 : tie.Need-returns-2
+unfolding ofBits
+returns-2 c = with-room _ _ _ _ _ (c .before .before .before .before .before .before .if1 .left) (c .before .before .before .before .before .if2 .taken) (c .before .before .before .kept .ensures) (c .before .before .put-ball .ensures)
+
+displace-requires : tie.Need-displace-requires
+displace-requires c κs = search needs
+
+same-length-2 : tie.Need-same-length-2
+same-length-2 c = search needs
+
+returns-3 : tie.Need-returns-3
+unfolding ofBits
+returns-3 c = with-full _ _ _ _ _ (c .before .before .before .before .before .if1 .left) (c .before .before .before .before .if2 .left) (c .before .before .displace .ensures)
+
+pub lose-spec : {M : Type 1} → statement M
+lose-spec =
+    tie.close
+    (tie.spec
+    returns
+    kept-requires
+    put-ball-requires
+    add-result
+    same-length
+    returns-2
+    displace-requires
+    same-length-2
+    returns-3)

@@ -1,0 +1,83 @@
+use mathlib.Core.Path.{_≡_, refl, sym, ap, _∙_}
+use mathlib.Core.List.{List, [], _∷_, _++_}
+use mathlib.Core.Logic.{⊎-elim}
+use Prim.Native.Nat.{ℕ, suc, _≤_, _<_, _*_, _-_, _+_}
+use native.Mathlib.Omega.{arith}
+use native.Mathlib.Numerals.{add-one}
+use native.Mathlib.Nat.{le-antisymm}
+use lib.ListN.{length, getD, take, drop, set, length-set}
+use lib.Ieee.{Float, nan}
+use borrow.Author.Needs.{needs}
+use Rattle.candidate.proofs.balls.put_ball.Statement.{statement}
+use Rattle.candidate.proofs.balls.put_ball.Tie as tie
+use Rattle.candidate.proofs.balls.put_ball.Reads as reads
+use Rattle.candidate.proofs.balls.put_ball.Lts as lts
+use Rattle.candidate.specs.Balls.{putBall}
+use lib.ListN.{length-set}
+use native.Mathlib.Omega.{arith}
+
+element-copy-out-balls : tie.Need-element-copy-out-balls
+element-copy-out-balls c = search needs
+
+add-balls : tie.Need-add-balls
+add-balls c = search needs
+
+mul-balls : tie.Need-mul-balls
+mul-balls c = search needs
+
+slice-write-balls : tie.Need-slice-write-balls
+slice-write-balls c = search needs
+
+element-copy-out-balls-2 : tie.Need-element-copy-out-balls-2
+element-copy-out-balls-2 c = search needs
+
+add-balls-2 : tie.Need-add-balls-2
+add-balls-2 c = search needs
+
+add-balls-3 : tie.Need-add-balls-3
+add-balls-3 c = search needs
+
+mul-balls-2 : tie.Need-mul-balls-2
+mul-balls-2 c = search needs
+
+slice-write-balls-2 : tie.Need-slice-write-balls-2
+slice-write-balls-2 c = simp length-set (omega arith)
+
+add-balls-4 : tie.Need-add-balls-4
+add-balls-4 c = search needs
+
+add-balls-5 : tie.Need-add-balls-5
+add-balls-5 c = search needs
+
+mul-balls-3 : tie.Need-mul-balls-3
+mul-balls-3 c = search needs
+
+slice-write-balls-3 : tie.Need-slice-write-balls-3
+slice-write-balls-3 c = simp length-set (omega arith)
+
+same-length : tie.Need-same-length
+same-length c = search needs
+
+returns : tie.Need-returns
+unfolding putBall
+returns c = refl
+
+pub put-ball-spec : {M : Type 1} → statement M
+put-ball-spec =
+    tie.close
+    (tie.spec
+    element-copy-out-balls
+    add-balls
+    mul-balls
+    slice-write-balls
+    element-copy-out-balls-2
+    add-balls-2
+    add-balls-3
+    mul-balls-2
+    slice-write-balls-2
+    add-balls-4
+    add-balls-5
+    mul-balls-3
+    slice-write-balls-3
+    same-length
+    returns)
