@@ -12,6 +12,7 @@ use lib.Ieee.{Float, nan}
 use Rattle.floats.specs.Numbers.{_≤ᶠ_, +0}
 use Rattle.readings.proofs.PartLaws.{tab-at}
 use Rattle.candidate.specs.declared.Ball.{Ball}
+use Rattle.candidate.specs.Boxes.{ballOf}
 use Rattle.candidate.specs.Balls.{ballAt, ahead, narrowestTo, heldAt, held, putBall, kept, hasRoom, displaced, areaWith, countWith, Lost}
 
 -- ---- the room
@@ -60,33 +61,34 @@ module _ (bs : List Ball) (i j : ℕ) (ej : j ≡ narrowestTo bs i) (b l : Ball)
   not-narrower e = let e′ = rw (eb, el, ej, add-one) at e in rw (add-one, e′) ej
 
 -- ---- the ways through `lose_inside`
-module _ (channels : ℕ) (area : List Float) (place : ℕ) (b : Ball) where
+pub other-second : {c d e r2 : Float} → d ≡ e → ballOf c d r2 ≡ ballOf c e r2
+other-second {c} {d} {e} {r2} q = ap (λ (v : Float). ballOf c v r2) q
+
+module _ (area : List Float) (place : ℕ) (b : Ball) where
   module _ {i : ℕ} {w : Float} (ei : i ≡ narrowestTo (held area place 64) 63) (ew : w ≡ heldAt area place i .r2) where
-    pub displaced-not : (b .r2 ≤ᶠ w) ≡ true → area ≡ displaced channels area place b
+    pub displaced-not : (b .r2 ≤ᶠ w) ≡ true → area ≡ displaced area place b
     unfolding displaced
     displaced-not e = rw (← ei, ← ew, e) refl
 
-    pub displaced-so : {l k : Ball} {y z : List Float} → (b .r2 ≤ᶠ w) ≡ false → l ≡ heldAt area place 63 → y ≡ putBall area place i l → k ≡ kept channels b → z ≡ putBall y place 63 k
-        → z ≡ displaced channels area place b
+    pub displaced-so : {k : Ball} {y z : List Float} → (b .r2 ≤ᶠ w) ≡ false → y ≡ putBall area place i (heldAt area place 63) → k ≡ b → z ≡ putBall y place 63 k → z ≡ displaced area place b
     unfolding displaced
-    displaced-so e el ey ek ez = ez ∙ (rw (← ei, ← ew, e, ey, el, ek) refl)
+    displaced-so e ey ek ez = ez ∙ (rw (ek, ey, ← ei, ← ew, e) refl)
 
   module _ (count : ℕ) where
-    pub with-empty : (b .r2 ≤ᶠ +0) ≡ true → (area ≡ areaWith channels area place count b) × (count ≡ countWith count b)
+    pub with-empty : (b .r2 ≤ᶠ +0) ≡ true → (area ≡ areaWith area place count b) × (count ≡ countWith count (b .r2))
     unfolding areaWith countWith
     with-empty e = (rw e refl, rw e refl)
 
-    pub with-room : {k : Ball} {y : List Float} → (b .r2 ≤ᶠ +0) ≡ false → count < 64 → k ≡ kept channels b → y ≡ putBall area place count k
-        → (y ≡ areaWith channels area place count b) × (count + 1 ≡ countWith count b)
+    pub with-room : {k : Ball} {y : List Float} → (b .r2 ≤ᶠ +0) ≡ false → count < 64 → k ≡ b → y ≡ putBall area place count k → (y ≡ areaWith area place count b) × (count + 1 ≡ countWith count (b .r2))
     unfolding areaWith countWith
-    with-room e h ek ey = (ey ∙ (rw (e, lt-ltb count 64 h, ek) refl), rw (e, lt-ltb count 64 h) refl)
+    with-room e h ek ey = (ey ∙ (rw (ek, e, lt-ltb count 64 h) refl), rw (e, lt-ltb count 64 h) refl)
 
-    pub with-full : {y : List Float} → (b .r2 ≤ᶠ +0) ≡ false → 64 ≤ count → y ≡ displaced channels area place b → (y ≡ areaWith channels area place count b) × (count ≡ countWith count b)
+    pub with-full : {y : List Float} → (b .r2 ≤ᶠ +0) ≡ false → 64 ≤ count → y ≡ displaced area place b → (y ≡ areaWith area place count b) × (count ≡ countWith count (b .r2))
     unfolding areaWith countWith
     with-full e h ey = (ey ∙ (rw (e, le-ltb count 64 h) refl), rw (e, le-ltb count 64 h) refl)
 
 pub lost-here : {channels : ℕ} {before after : List Float} {place count : ℕ} {b : Ball} {r : ℕ} → hasRoom (length before) place count ≡ true
-    → after ≡ areaWith channels before place count b → r ≡ countWith count b → Lost channels before after place count b r
+    → after ≡ areaWith before place count (kept channels b) → r ≡ countWith count (b .r2) → Lost channels before after place count b r
 lost-here e p q = record { left = p ∙ (rw e refl); said = q ∙ (rw e refl) }
 
 pub lost-not : {channels : ℕ} {area : List Float} {place count : ℕ} {b : Ball} → hasRoom (length area) place count ≡ false → Lost channels area area place count b count

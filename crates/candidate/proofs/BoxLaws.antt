@@ -1,57 +1,51 @@
--- Laws of the box: what each way through `restrict` and `is_dominated` comes to. Assumes nothing.
+-- Laws of the box: what each way through `restrict` comes to. Assumes nothing.
 use Prim.Native.Nat.{ℕ}
-use mathlib.Core.Bool.{Bool, true, false, _||_, cond}
+use mathlib.Core.Bool.{true, false}
 use mathlib.Core.Path.{_≡_, refl, sym, ap, _∙_}
 use borrow.Author.Tests.{eq-eqb, ne-eqb}
 use native.Mathlib.Omega.{arith}
-use lib.Dec.{eqb}
-use lib.ListN.{getD, set}
 use lib.Seq.{getD-set-other}
 use lib.Ieee.{Float, nan}
-use Rattle.floats.specs.Numbers.{_+ᶠ_, _-ᶠ_, _<ᶠ_, +0}
+use Rattle.floats.specs.Numbers.{_+ᶠ_, _-ᶠ_}
 use Rattle.candidate.specs.declared.Candidate.{Candidate}
 use Rattle.candidate.specs.declared.Ball.{Ball}
-use Rattle.candidate.specs.Boxes.{at, overChannels, alongEach, emptied, gap2, gapAlong, narrowedAlong, restrict, goneAlong, isDominated}
+use Rattle.candidate.specs.declared.boxes.Span.{Span}
+use Rattle.candidate.specs.Boxes.{at, ballOf, spanAt, withSpan, overChannels, alongEach, gap2, narrowed, missed, nothing, restrict}
 
-module _ (channels : ℕ) (b : Ball) (x : Candidate) where
-  pub restrict-empty : {r : Candidate} → (b .r2 <ᶠ +0) ≡ true → r ≡ emptied x → r ≡ restrict channels b x
-  unfolding restrict
-  restrict-empty e q = q ∙ (rw e refl)
+-- a change along the first channel leaves what stands along the second
+pub span-beside : (s : Span) (x : Candidate) → spanAt (withSpan 0 s x) 1 ≡ spanAt x 1
+unfolding spanAt withSpan
+span-beside s x = rw (getD-set-other (x .lo) 0 1 (s .lo) nan (omega arith), getD-set-other (x .hi) 0 1 (s .hi) nan (omega arith)) refl
 
-  module _ (full : (b .r2 <ᶠ +0) ≡ false) (g : Float) (eg : g ≡ gap2 (at (x .lo) 0) (at (x .hi) 0) (at (b .centre) 0)) where
-    pub restrict-one-missed : {r : Candidate} → channels ≡ 1 → (b .r2 <ᶠ g) ≡ true → r ≡ emptied x → r ≡ restrict channels b x
-    unfolding restrict overChannels gapAlong
-    restrict-one-missed one e q = q ∙ (rw (full, eq-eqb channels 1 one, ← eg, e) refl)
+-- ---- `restrict` on one channel
+module _ (c r2 : Float) (x : Candidate) {s : Span} {g : Float} (es : s ≡ spanAt x 0) (eg : g ≡ gap2 s c) where
+  pub one-missed : {t : Span} {r : Candidate} → missed r2 g ≡ true → t ≡ nothing → r ≡ withSpan 0 t x → r ≡ restrict 1 (ballOf c c r2) x
+  unfolding restrict overChannels
+  one-missed e et q = q ∙ (rw (et, ← es, ← eg, e) refl)
 
-    pub restrict-one : {r : Candidate} → channels ≡ 1 → (b .r2 <ᶠ g) ≡ false → r ≡ narrowedAlong b (g -ᶠ g) 0 x → r ≡ restrict channels b x
-    unfolding restrict overChannels alongEach gapAlong
-    restrict-one one e q = q ∙ (rw (full, eq-eqb channels 1 one, ← eg, e) refl)
+  pub one-met : {t : Span} {r : Candidate} → missed r2 g ≡ false → t ≡ narrowed s c (r2 -ᶠ (g -ᶠ g)) → r ≡ withSpan 0 t x → r ≡ restrict 1 (ballOf c c r2) x
+  unfolding restrict overChannels alongEach
+  one-met e et q = q ∙ (rw (et, ← es, ← eg, e) refl)
 
-    module _ (two : channels ≡ 1 → ⊥) (h : Float) (eh : h ≡ gap2 (at (x .lo) 1) (at (x .hi) 1) (at (b .centre) 1)) where
-      pub restrict-two-missed : {r : Candidate} → (b .r2 <ᶠ g +ᶠ h) ≡ true → r ≡ emptied x → r ≡ restrict channels b x
-      unfolding restrict overChannels gapAlong
-      restrict-two-missed e q = q ∙ (rw (full, ne-eqb channels 1 two, ← eg, ← eh, e) refl)
+-- ---- on two
+module _ (c d r2 : Float) (x : Candidate) {s u : Span} {g h : Float} (es : s ≡ spanAt x 0) (eu : u ≡ spanAt x 1) (eg : g ≡ gap2 s c) (eh : h ≡ gap2 u d) where
+  pub two-missed : {t : Span} {r : Candidate} → missed r2 (g +ᶠ h) ≡ true → t ≡ nothing → r ≡ withSpan 0 t x → r ≡ restrict 2 (ballOf c d r2) x
+  unfolding restrict overChannels
+  two-missed e et q = q ∙ (rw (et, ← es, ← eu, ← eg, ← eh, e) refl)
 
-      narrowed-beside : (rest : Float) → gapAlong b (narrowedAlong b rest 0 x) 1 ≡ h
-      unfolding gapAlong narrowedAlong
-      narrowed-beside rest = rw (getD-set-other (x .lo) 0 1 _ nan (omega arith), getD-set-other (x .hi) 0 1 _ nan (omega arith)) (sym eh)
+  pub two-met : {t v : Span} {y r : Candidate} → missed r2 (g +ᶠ h) ≡ false → t ≡ narrowed s c (r2 -ᶠ (g +ᶠ h -ᶠ g)) → y ≡ withSpan 0 t x
+      → v ≡ narrowed u d (r2 -ᶠ (g +ᶠ h -ᶠ h)) → r ≡ withSpan 1 v y → r ≡ restrict 2 (ballOf c d r2) x
+  unfolding restrict overChannels alongEach
+  two-met {t} {v} {y} e et ey ev q = q ∙ (rw (ev, ey, et, ← es, ← eu, ← eg, ← eh, e, beside, ← eh) refl)
+    where
+      beside : spanAt (withSpan 0 (narrowed s c (r2 -ᶠ (g +ᶠ h -ᶠ g))) x) 1 ≡ u
+      beside = span-beside (narrowed s c (r2 -ᶠ (g +ᶠ h -ᶠ g))) x ∙ sym eu
 
-      first : gapAlong b x 0 ≡ g
-      unfolding gapAlong
-      first = sym eg
+-- ---- by the number of channels
+pub restrict-one : (channels : ℕ) (b : Ball) (x : Candidate) → channels ≡ 1 → restrict 1 (ballOf (at (b .centre) 0) (at (b .centre) 0) (b .r2)) x ≡ restrict channels b x
+unfolding restrict overChannels alongEach
+restrict-one channels b x e = rw (eq-eqb channels 1 e) refl
 
-      second : gapAlong b x 1 ≡ h
-      unfolding gapAlong
-      second = sym eh
-
-      pub restrict-two : {y r : Candidate} → (b .r2 <ᶠ g +ᶠ h) ≡ false → y ≡ narrowedAlong b (g +ᶠ h -ᶠ g) 0 x → r ≡ narrowedAlong b (g +ᶠ h -ᶠ h) 1 y → r ≡ restrict channels b x
-      unfolding restrict overChannels alongEach
-      restrict-two e p q = q ∙ (rw (p, full, ne-eqb channels 1 two, first, second, e, narrowed-beside (g +ᶠ h -ᶠ g)) refl)
-
-pub dominated-one : (channels : ℕ) (x : Candidate) (r : Bool) → channels ≡ 1 → r ≡ goneAlong x 0 → r ≡ isDominated channels x
-unfolding isDominated
-dominated-one channels x r one q = q ∙ (rw (eq-eqb channels 1 one) refl)
-
-pub dominated-two : (channels : ℕ) (x : Candidate) (r : Bool) → (channels ≡ 1 → ⊥) → r ≡ (goneAlong x 0 || goneAlong x 1) → r ≡ isDominated channels x
-unfolding isDominated
-dominated-two channels x r two q = q ∙ (rw (ne-eqb channels 1 two) refl)
+pub restrict-two : (channels : ℕ) (b : Ball) (x : Candidate) → (channels ≡ 1 → ⊥) → restrict 2 (ballOf (at (b .centre) 0) (at (b .centre) 1) (b .r2)) x ≡ restrict channels b x
+unfolding restrict overChannels alongEach
+restrict-two channels b x e = rw (ne-eqb channels 1 e) refl

@@ -10,7 +10,7 @@ use Rattle.floats.specs.Numbers.{_-ᶠ_, _<ᶠ_, _≤ᶠ_, +0}
 use Rattle.elementary.specs.Root.{sqrt}
 use Rattle.readings.specs.Parts.{tab}
 use Rattle.candidate.specs.declared.Ball.{Ball}
-use Rattle.candidate.specs.Boxes.{at}
+use Rattle.candidate.specs.Boxes.{at, ballOf}
 
 -- ---- the list of balls
 
@@ -41,8 +41,7 @@ loseInside b bs = cond (b .r2 ≤ᶠ +0) bs (cond (ltb (length bs) losingBalls) 
 -- ---- the balls in an area: from a place on three runs of 64, the first numbers of the centres, the second numbers, and the squares of the radii
 
 unfoldable pub heldAt : List Float → ℕ → ℕ → Ball
-heldAt area place i =
-    record { centre = getD area (place + i) nan ∷ getD area (place + 64 + i) nan ∷ []; r2 = getD area (place + 128 + i) nan }
+heldAt area place i = ballOf (getD area (place + i) nan) (getD area (place + 64 + i) nan) (getD area (place + 128 + i) nan)
 
 unfoldable pub held : List Float → ℕ → ℕ → List Ball
 held area place count = tab (heldAt area place) count
@@ -51,20 +50,24 @@ unfoldable pub putBall : List Float → ℕ → ℕ → Ball → List Float
 putBall area place i b =
     set (set (set area (place + i) (at (b .centre) 0)) (place + 64 + i) (at (b .centre) 1)) (place + 128 + i) (b .r2)
 
--- a ball as the area holds it: on one channel the second number is the root that cutting takes, of r2 less a rest of +0
+-- what stands for the second number of a ball's centre, d: on one channel the root that cutting takes, of r2 less a rest of +0
+unfoldable pub secondNumber : ℕ → Float → Float → Float
+secondNumber channels d r2 = cond (eqb channels 1) (sqrt (r2 -ᶠ +0)) d
+
+-- a ball as the area holds it
 unfoldable pub kept : ℕ → Ball → Ball
-kept channels b = cond (eqb channels 1) (record { centre = set (b .centre) 1 (sqrt (b .r2 -ᶠ +0)); r2 = b .r2 }) b
+kept channels b = ballOf (at (b .centre) 0) (secondNumber channels (at (b .centre) 1) (b .r2)) (b .r2)
 
 -- a ball of the area as it is meant: on one channel the second number is +0
 unfoldable pub meant : ℕ → Ball → Ball
-meant channels b = record { centre = at (b .centre) 0 ∷ cond (eqb channels 1) +0 (at (b .centre) 1) ∷ []; r2 = b .r2 }
+meant channels b = ballOf (at (b .centre) 0) (cond (eqb channels 1) +0 (at (b .centre) 1)) (b .r2)
 
 -- the list of balls that an area stands for
 unfoldable pub ballsAt : ℕ → List Float → ℕ → ℕ → List Ball
 ballsAt channels area place count = tab (λ i. meant channels (heldAt area place i)) count
 
--- the second number of a ball's centre is the root, and the ball is not empty
-pub record Root (b : Ball) : Type 0 where
+-- a ball that stands in the area as on one channel: with its root, and not empty
+pub record Rooted (b : Ball) : Type 0 where
   pub root : at (b .centre) 1 ≡ sqrt (b .r2 -ᶠ +0)
   pub above : (b .r2 <ᶠ +0) ≡ false
 
@@ -72,23 +75,22 @@ pub record Root (b : Ball) : Type 0 where
 unfoldable pub hasRoom : ℕ → ℕ → ℕ → Bool
 hasRoom size place count = leb count losingBalls && leb (place + 192) size
 
--- ---- `lose_inside` in an area
+-- ---- `lose_inside` in an area, for a ball as the area holds it
 
 -- one more ball for 64
-unfoldable pub displaced : ℕ → List Float → ℕ → Ball → List Float
-displaced channels area place b =
+unfoldable pub displaced : List Float → ℕ → Ball → List Float
+displaced area place b =
     let i = narrowestTo (held area place 64) 63 in
-    cond (b .r2 ≤ᶠ heldAt area place i .r2) area (putBall (putBall area place i (heldAt area place 63)) place 63 (kept channels b))
+    cond (b .r2 ≤ᶠ heldAt area place i .r2) area (putBall (putBall area place i (heldAt area place 63)) place 63 b)
 
 -- the area, and the number of balls, once the ball is among them
-unfoldable pub areaWith : ℕ → List Float → ℕ → ℕ → Ball → List Float
-areaWith channels area place count b =
-    cond (b .r2 ≤ᶠ +0) area (cond (ltb count losingBalls) (putBall area place count (kept channels b)) (displaced channels area place b))
+unfoldable pub areaWith : List Float → ℕ → ℕ → Ball → List Float
+areaWith area place count b = cond (b .r2 ≤ᶠ +0) area (cond (ltb count losingBalls) (putBall area place count b) (displaced area place b))
 
-unfoldable pub countWith : ℕ → Ball → ℕ
-countWith count b = cond (b .r2 ≤ᶠ +0) count (cond (ltb count losingBalls) (count + 1) count)
+unfoldable pub countWith : ℕ → Float → ℕ
+countWith count r2 = cond (r2 ≤ᶠ +0) count (cond (ltb count losingBalls) (count + 1) count)
 
 -- what `lose_inside` leaves and says: that where there is room, and otherwise what was
 pub record Lost (channels : ℕ) (before after : List Float) (place count : ℕ) (b : Ball) (r : ℕ) : Type 0 where
-  pub left : after ≡ cond (hasRoom (length before) place count) (areaWith channels before place count b) before
-  pub said : r ≡ cond (hasRoom (length before) place count) (countWith count b) count
+  pub left : after ≡ cond (hasRoom (length before) place count) (areaWith before place count (kept channels b)) before
+  pub said : r ≡ cond (hasRoom (length before) place count) (countWith count (b .r2)) count

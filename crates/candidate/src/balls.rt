@@ -3,7 +3,8 @@ ghost use mathlib.Core.Path.{_≡_};
 ghost use Prim.Native.Nat.{_+_, _≤_, _<_};
 ghost use lib.ListN.{length, getD};
 ghost use lib.Ieee.{nan};
-ghost use Rattle.candidate.specs.Balls.{ahead, narrowestTo, kept, heldAt, held, putBall, hasRoom, displaced, areaWith, countWith, Lost};
+ghost use Rattle.candidate.specs.Boxes.{ballOf};
+ghost use Rattle.candidate.specs.Balls.{ahead, narrowestTo, secondNumber, heldAt, held, putBall, hasRoom, displaced, areaWith, countWith, Lost};
 use crate::Ball;
 use crate::Candidate;
 use elementary::sqrt;
@@ -21,36 +22,42 @@ pub fn has_room(size: usize, place: usize, count: usize) -> bool
     false
 }
 
-pub fn ball_at(balls: &[f64], place: usize, i: usize) -> Ball
+fn radius_at(balls: &[f64], place: usize, i: usize) -> f64
     requires { ⌜ (place + 192 ≤ length (now balls)) × (i < 64) ⌝ }
-    ensures { λ r. ⌜ r ≡ heldAt (now (balls .entry)) place i ⌝ }
+    ensures { λ r. ⌜ r ≡ heldAt (now (balls .entry)) place i .r2 ⌝ }
 {
-    let centre = [balls[place + i], balls[place + 64 + i]];
-    Ball {
-        centre,
-        r2: balls[place + 128 + i],
-    }
+    balls[place + 128 + i]
 }
 
-fn put_ball(balls: &mut [f64], place: usize, i: usize, ball: Ball)
+fn put_ball(balls: &mut [f64], place: usize, i: usize, c: f64, d: f64, r2: f64)
     requires { ⌜ (place + 192 ≤ length (now balls)) × (i < 64) ⌝ }
-    ensures { λ r. ⌜ now (balls .exit) ≡ putBall (now (balls .entry)) place i ball ⌝ }
+    ensures { λ r. ⌜ now (balls .exit) ≡ putBall (now (balls .entry)) place i (ballOf c d r2) ⌝ }
 {
-    balls[place + i] = ball.centre[0];
-    balls[place + 64 + i] = ball.centre[1];
-    balls[place + 128 + i] = ball.r2;
+    balls[place + i] = c;
+    balls[place + 64 + i] = d;
+    balls[place + 128 + i] = r2;
 }
 
-// A ball as the area holds it: on one channel the second number of the centre is free, and the root
+// The last of 64 balls goes to place i as well.
+fn copy_last(balls: &mut [f64], place: usize, i: usize)
+    requires { ⌜ (place + 192 ≤ length (now balls)) × (i < 64) ⌝ }
+    ensures { λ r. ⌜ now (balls .exit) ≡ putBall (now (balls .entry)) place i (heldAt (now (balls .entry)) place 63) ⌝ }
+{
+    let c = balls[place + 63];
+    let d = balls[place + 64 + 63];
+    let r2 = balls[place + 128 + 63];
+    put_ball(balls, place, i, c, d, r2);
+}
+
+// What stands in the second run: on one channel the second number of the centre is free, and the root
 // stands there, so that cutting takes none.
-fn kept(channels: usize, mut ball: Ball) -> Ball
-    ensures { λ r. ⌜ r ≡ kept channels ball ⌝ }
+fn second_number(channels: usize, d: f64, r2: f64) -> f64
+    ensures { λ r. ⌜ r ≡ secondNumber channels d r2 ⌝ }
 {
     if channels == 1 {
-        ball.centre[1] = sqrt(ball.r2 - 0.0);
-        return ball;
+        return sqrt(r2 - 0.0);
     }
-    ball
+    d
 }
 
 // Whether radius y stands before x: it is less, or x alone is NaN.
@@ -64,13 +71,6 @@ fn ahead(y: f64, x: f64) -> bool
         return y == y;
     }
     false
-}
-
-fn radius_at(balls: &[f64], place: usize, i: usize) -> f64
-    requires { ⌜ (place + 192 ≤ length (now balls)) × (i < 64) ⌝ }
-    ensures { λ r. ⌜ r ≡ heldAt (now (balls .entry)) place i .r2 ⌝ }
-{
-    balls[place + 128 + i]
 }
 
 // The place of the narrowest of 64 balls, the earliest on a tie. Cost: one turn for each ball.
@@ -92,37 +92,44 @@ fn narrowest(balls: &[f64], place: usize) -> usize
 
 // One more ball for 64: the last one moves into the place of the narrowest, and the new one goes last,
 // unless it is no wider.
-fn displace(channels: usize, balls: &mut [f64], place: usize, ball: Ball)
+fn displace(channels: usize, balls: &mut [f64], place: usize, c: f64, d: f64, r2: f64)
     requires { ⌜ place + 192 ≤ length (now balls) ⌝ }
-    ensures { λ r. ⌜ now (balls .exit) ≡ displaced channels (now (balls .entry)) place ball ⌝ }
+    ensures { λ r. ⌜ now (balls .exit) ≡ displaced (now (balls .entry)) place (ballOf c (secondNumber channels d r2) r2) ⌝ }
 {
     let i = narrowest(balls, place);
-    if ball.r2 <= radius_at(balls, place, i) {
+    if r2 <= radius_at(balls, place, i) {
         return;
     }
-    let last = ball_at(balls, place, 63);
-    put_ball(balls, place, i, last);
-    put_ball(balls, place, 63, kept(channels, ball));
+    copy_last(balls, place, i);
+    put_ball(balls, place, 63, c, second_number(channels, d, r2), r2);
 }
 
-fn lose(channels: usize, balls: &mut [f64], place: usize, count: usize, ball: Ball) -> usize
+fn lose(
+    channels: usize,
+    balls: &mut [f64],
+    place: usize,
+    count: usize,
+    c: f64,
+    d: f64,
+    r2: f64,
+) -> usize
     requires { ⌜ (place + 192 ≤ length (now balls)) × (count ≤ 64) ⌝ }
-    ensures { λ r. ⌜ (now (balls .exit) ≡ areaWith channels (now (balls .entry)) place count ball) × (r ≡ countWith count ball) ⌝ }
+    ensures { λ r. ⌜ (now (balls .exit) ≡ areaWith (now (balls .entry)) place count (ballOf c (secondNumber channels d r2) r2)) × (r ≡ countWith count r2) ⌝ }
 {
-    if ball.r2 <= 0.0 {
+    if r2 <= 0.0 {
         return count;
     }
     if count < Candidate::LOSING_BALLS {
-        put_ball(balls, place, count, kept(channels, ball));
+        put_ball(balls, place, count, c, second_number(channels, d, r2), r2);
         return count + 1;
     }
-    displace(channels, balls, place, ball);
+    displace(channels, balls, place, c, d, r2);
     count
 }
 
 // Notes that the candidate whose balls stand here, so many of them, loses inside one more, and says
 // how many there are then; nothing is done where there is no room. Cost: 64 turns with a full list,
-// a root on one channel.
+// and a root on one channel for a ball that is kept.
 pub fn lose_inside(
     channels: usize,
     balls: &mut [f64],
@@ -133,7 +140,9 @@ pub fn lose_inside(
     ensures { λ r. ⌜ Lost channels (now (balls .entry)) (now (balls .exit)) place count ball r ⌝ }
 {
     if has_room(balls.len(), place, count) {
-        return lose(channels, balls, place, count, ball);
+        let c = ball.centre[0];
+        let d = ball.centre[1];
+        return lose(channels, balls, place, count, c, d, ball.r2);
     }
     count
 }

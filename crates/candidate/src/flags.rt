@@ -5,17 +5,11 @@ ghost use mathlib.Core.Bool.{_&&_, _||_};
 pub fn both(a: bool, b: bool) -> bool
     ensures { λ r. ⌜ r ≡ (a && b) ⌝ }
 {
-    if a {
-        return b;
-    }
-    false
+    if a { b } else { false }
 }
 
 pub fn either(a: bool, b: bool) -> bool
     ensures { λ r. ⌜ r ≡ (a || b) ⌝ }
 {
-    if a {
-        return true;
-    }
-    b
+    if a { true } else { b }
 }

@@ -1,11 +1,11 @@
 // One candidate of the functional search: the box where it can still win, and the balls where it
 // loses.
 //
-// No function asks anything of its caller. The number of channels is 1, and any other counts as 2.
-// Each result, and each area afterwards, is to the bit what the definition says that its contract
-// names: `specs/Boxes` for the box and the ball that narrows it, `specs/Balls` for the losing balls
-// and how they stand in an area, `specs/Cuts` for what they cut from the box. `proofs/BallLaws` and
-// `proofs/CutLaws` say that area by area this is what the lists of balls of the definitions do.
+// No public function asks anything of its caller. The number of channels is 1, and any other counts
+// as 2. Each result, and each area afterwards, is to the bit what the definition says that its
+// contract names: `specs/Boxes` for the box and the ball that narrows it, `specs/Balls` for the
+// losing balls and how they stand in an area, `specs/Cuts` for what they cut from the box. That in an
+// area this is what happens to the list of balls which it stands for, is said in `proofs/AreaLaws`.
 mod balls;
 mod boxes;
 mod cuts;

@@ -12,9 +12,9 @@ use Rattle.candidate.proofs.Candidate.cut_losing.Statement.{statement}
 use Rattle.candidate.proofs.Candidate.cut_losing.Tie as tie
 use Rattle.candidate.proofs.Candidate.cut_losing.Reads as reads
 use Rattle.candidate.proofs.Candidate.cut_losing.Lts as lts
-use Rattle.candidate.proofs.Candidate.cut_one.Reads as cut-one-reads
-use Rattle.candidate.proofs.Candidate.cut_two.Reads as cut-two-reads
 use Rattle.candidate.proofs.balls.has_room.Reads as has-room-reads
+use Rattle.candidate.proofs.cuts.cut_one.Reads as cut-one-reads
+use Rattle.candidate.proofs.cuts.cut_two.Reads as cut-two-reads
 use Rattle.candidate.specs.Cuts.{cutIn}
 use Rattle.candidate.proofs.BallLaws.{room-fits}
 use borrow.Author.Tests.{eq-eqb, ne-eqb}

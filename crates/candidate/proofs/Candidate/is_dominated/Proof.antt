@@ -13,7 +13,8 @@ use Rattle.candidate.proofs.Candidate.is_dominated.Tie as tie
 use Rattle.candidate.proofs.Candidate.is_dominated.Reads as reads
 use Rattle.candidate.proofs.Candidate.is_dominated.Lts as lts
 use Rattle.candidate.proofs.flags.either.Reads as either-reads
-use Rattle.candidate.proofs.BoxLaws.{dominated-one, dominated-two}
+use Rattle.candidate.specs.Boxes.{isDominated, spanAt}
+use borrow.Author.Tests.{eq-eqb, ne-eqb}
 
 element-copy-out-first : tie.Need-element-copy-out-first
 element-copy-out-first c = search needs
@@ -22,7 +23,8 @@ element-copy-out-first-2 : tie.Need-element-copy-out-first-2
 element-copy-out-first-2 c = search needs
 
 returns : tie.Need-returns
-returns c = dominated-one _ _ _ (c .if1 .taken) refl
+unfolding isDominated spanAt
+returns c = rw (eq-eqb _ _ (c .if1 .taken)) refl
 
 element-copy-out-either : tie.Need-element-copy-out-either
 element-copy-out-either c = search needs
@@ -34,7 +36,8 @@ either-requires : tie.Need-either-requires
 either-requires c κs = search needs
 
 returns-2 : tie.Need-returns-2
-returns-2 c = dominated-two _ _ _ (c .before .before .before .if1 .left) (c .either .ensures)
+unfolding isDominated spanAt
+returns-2 c = rw (ne-eqb _ _ (c .before .before .before .if1 .left)) (c .either .ensures)
 
 pub is-dominated-spec : {M : Type 1} → statement M
 is-dominated-spec =

@@ -12,12 +12,12 @@ use Rattle.candidate.proofs.balls.displace.Statement.{statement}
 use Rattle.candidate.proofs.balls.displace.Tie as tie
 use Rattle.candidate.proofs.balls.displace.Reads as reads
 use Rattle.candidate.proofs.balls.displace.Lts as lts
-use Rattle.candidate.proofs.balls.ball_at.Reads as ball-at-reads
-use Rattle.candidate.proofs.balls.kept.Reads as kept-reads
+use Rattle.candidate.proofs.balls.copy_last.Reads as copy-last-reads
 use Rattle.candidate.proofs.balls.narrowest.Reads as narrowest-reads
 use Rattle.candidate.proofs.balls.put_ball.Reads as put-ball-reads
 use Rattle.candidate.proofs.balls.radius_at.Reads as radius-at-reads
-use Rattle.candidate.proofs.BallLaws.{displaced-not, displaced-so}
+use Rattle.candidate.proofs.balls.second_number.Reads as second-number-reads
+use Rattle.candidate.proofs.BallLaws.{displaced-not, displaced-so, other-second}
 
 narrowest-requires : tie.Need-narrowest-requires
 narrowest-requires c κs = search needs
@@ -29,25 +29,22 @@ same-length : tie.Need-same-length
 same-length c = search needs
 
 returns : tie.Need-returns
-returns c = displaced-not _ _ _ _ (c .before .before .before .before .narrowest .ensures .0) (c .before .before .radius-at .ensures) (c .if1 .taken)
+returns c = displaced-not _ _ _ (c .before .before .before .narrowest .ensures .0) (c .before .radius-at .ensures) (c .if1 .taken)
 
-ball-at-requires : tie.Need-ball-at-requires
-ball-at-requires c κs = search needs
+copy-last-requires : tie.Need-copy-last-requires
+copy-last-requires c κs = search needs
+
+second-number-requires : tie.Need-second-number-requires
+second-number-requires c κs = search needs
 
 put-ball-requires : tie.Need-put-ball-requires
 put-ball-requires c κs = search needs
-
-kept-requires : tie.Need-kept-requires
-kept-requires c κs = search needs
-
-put-ball-requires-2 : tie.Need-put-ball-requires-2
-put-ball-requires-2 c κs = search needs
 
 same-length-2 : tie.Need-same-length-2
 same-length-2 c = search needs
 
 returns-2 : tie.Need-returns-2
-returns-2 c = displaced-so _ _ _ _ (c .before .before .before .before .before .before .before .before .before .before .before .before .before .before .before .narrowest .ensures .0) (c .before .before .before .before .before .before .before .before .before .before .before .before .before .radius-at .ensures) (c .before .before .before .before .before .before .before .before .before .before .before .if1 .left) (c .before .before .before .before .before .before .before .before .before .ball-at .ensures) (c .before .before .before .before .before .before .before .put-ball .ensures) (c .before .before .before .kept .ensures) (c .before .before .put-ball2 .ensures)
+returns-2 c = displaced-so _ _ _ (c .before .before .before .before .before .before .before .before .before .before .before .before .narrowest .ensures .0) (c .before .before .before .before .before .before .before .before .before .before .radius-at .ensures) (c .before .before .before .before .before .before .before .before .before .if1 .left) (c .before .before .before .before .before .before .before .copy-last .ensures) (other-second (c .before .before .before .second-number .ensures)) (c .before .before .put-ball .ensures)
 
 pub displace-spec : {M : Type 1} → statement M
 displace-spec =
@@ -57,9 +54,8 @@ displace-spec =
     radius-at-requires
     same-length
     returns
-    ball-at-requires
+    copy-last-requires
+    second-number-requires
     put-ball-requires
-    kept-requires
-    put-ball-requires-2
     same-length-2
     returns-2)

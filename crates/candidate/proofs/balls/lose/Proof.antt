@@ -13,17 +13,17 @@ use Rattle.candidate.proofs.balls.lose.Tie as tie
 use Rattle.candidate.proofs.balls.lose.Reads as reads
 use Rattle.candidate.proofs.balls.lose.Lts as lts
 use Rattle.candidate.proofs.balls.displace.Reads as displace-reads
-use Rattle.candidate.proofs.balls.kept.Reads as kept-reads
 use Rattle.candidate.proofs.balls.put_ball.Reads as put-ball-reads
-use Rattle.candidate.proofs.BallLaws.{with-empty, with-room, with-full}
+use Rattle.candidate.proofs.balls.second_number.Reads as second-number-reads
+use Rattle.candidate.proofs.BallLaws.{with-empty, with-room, with-full, other-second}
 use lib.Ieee.{ofBits}
 
 returns : tie.Need-returns
 unfolding ofBits
-returns c = with-empty _ _ _ _ _ (c .if1 .taken)
+returns c = with-empty _ _ _ _ (c .if1 .taken)
 
-kept-requires : tie.Need-kept-requires
-kept-requires c κs = search needs
+second-number-requires : tie.Need-second-number-requires
+second-number-requires c κs = search needs
 
 put-ball-requires : tie.Need-put-ball-requires
 put-ball-requires c κs = search needs
@@ -36,7 +36,7 @@ same-length c = search needs
 
 returns-2 : tie.Need-returns-2
 unfolding ofBits
-returns-2 c = with-room _ _ _ _ _ (c .before .before .before .before .before .before .if1 .left) (c .before .before .before .before .before .if2 .taken) (c .before .before .before .kept .ensures) (c .before .before .put-ball .ensures)
+returns-2 c = with-room _ _ _ _ (c .before .before .before .before .before .before .if1 .left) (c .before .before .before .before .before .if2 .taken) (other-second (c .before .before .before .second-number .ensures)) (c .before .before .put-ball .ensures)
 
 displace-requires : tie.Need-displace-requires
 displace-requires c κs = search needs
@@ -46,14 +46,14 @@ same-length-2 c = search needs
 
 returns-3 : tie.Need-returns-3
 unfolding ofBits
-returns-3 c = with-full _ _ _ _ _ (c .before .before .before .before .before .if1 .left) (c .before .before .before .before .if2 .left) (c .before .before .displace .ensures)
+returns-3 c = with-full _ _ _ _ (c .before .before .before .before .before .if1 .left) (c .before .before .before .before .if2 .left) (c .before .before .displace .ensures)
 
 pub lose-spec : {M : Type 1} → statement M
 lose-spec =
     tie.close
     (tie.spec
     returns
-    kept-requires
+    second-number-requires
     put-ball-requires
     add-result
     same-length

@@ -13,11 +13,6 @@ use Rattle.candidate.proofs.balls.put_ball.Tie as tie
 use Rattle.candidate.proofs.balls.put_ball.Reads as reads
 use Rattle.candidate.proofs.balls.put_ball.Lts as lts
 use Rattle.candidate.specs.Balls.{putBall}
-use lib.ListN.{length-set}
-use native.Mathlib.Omega.{arith}
-
-element-copy-out-balls : tie.Need-element-copy-out-balls
-element-copy-out-balls c = search needs
 
 add-balls : tie.Need-add-balls
 add-balls c = search needs
@@ -27,9 +22,6 @@ mul-balls c = search needs
 
 slice-write-balls : tie.Need-slice-write-balls
 slice-write-balls c = search needs
-
-element-copy-out-balls-2 : tie.Need-element-copy-out-balls-2
-element-copy-out-balls-2 c = search needs
 
 add-balls-2 : tie.Need-add-balls-2
 add-balls-2 c = search needs
@@ -66,11 +58,9 @@ pub put-ball-spec : {M : Type 1} → statement M
 put-ball-spec =
     tie.close
     (tie.spec
-    element-copy-out-balls
     add-balls
     mul-balls
     slice-write-balls
-    element-copy-out-balls-2
     add-balls-2
     add-balls-3
     mul-balls-2

@@ -20,7 +20,7 @@ max-requires c κs = search needs
 
 returns : tie.Need-returns
 unfolding far2
-returns c = cc
+returns c = c .max .ensures
 
 pub far2-spec : {M : Type 1} → statement M
 far2-spec = tie.close (tie.spec max-requires returns)

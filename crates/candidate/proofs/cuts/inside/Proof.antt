@@ -20,7 +20,7 @@ both-requires c κs = search needs
 
 returns : tie.Need-returns
 unfolding inside
-returns c = cc
+returns c = c .both .ensures
 
 pub inside-spec : {M : Type 1} → statement M
 inside-spec = tie.close (tie.spec both-requires returns)

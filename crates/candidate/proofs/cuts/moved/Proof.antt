@@ -14,7 +14,6 @@ use Rattle.candidate.proofs.cuts.moved.Reads as reads
 use Rattle.candidate.proofs.cuts.moved.Lts as lts
 use Rattle.candidate.proofs.cuts.inside.Reads as inside-reads
 use Rattle.candidate.specs.Cuts.{moved}
-use Rattle.candidate.specs.Cuts.{moved}
 
 inside-requires : tie.Need-inside-requires
 inside-requires c κs = search needs

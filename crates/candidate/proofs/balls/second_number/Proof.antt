@@ -8,28 +8,25 @@ use native.Mathlib.Nat.{le-antisymm}
 use lib.ListN.{length, getD, take, drop, set, length-set}
 use lib.Ieee.{Float, nan}
 use borrow.Author.Needs.{needs}
-use Rattle.candidate.proofs.balls.kept.Statement.{statement}
-use Rattle.candidate.proofs.balls.kept.Tie as tie
-use Rattle.candidate.proofs.balls.kept.Reads as reads
-use Rattle.candidate.proofs.balls.kept.Lts as lts
+use Rattle.candidate.proofs.balls.second_number.Statement.{statement}
+use Rattle.candidate.proofs.balls.second_number.Tie as tie
+use Rattle.candidate.proofs.balls.second_number.Reads as reads
+use Rattle.candidate.proofs.balls.second_number.Lts as lts
 use Rattle.elementary.proofs.sqrt.Reads as sqrt-reads
-use Rattle.candidate.specs.Balls.{kept}
+use Rattle.candidate.specs.Balls.{secondNumber}
 use lib.Ieee.{ofBits}
 use borrow.Author.Tests.{eq-eqb, ne-eqb}
 
 sqrt-requires : tie.Need-sqrt-requires
 sqrt-requires c κs = search needs
 
-element-write-ball : tie.Need-element-write-ball
-element-write-ball c = search needs
-
 returns : tie.Need-returns
-unfolding kept ofBits
-returns c = rw (eq-eqb _ _ (c .before .if1 .taken), ← c .sqrt .ensures) refl
+unfolding secondNumber ofBits
+returns c = rw (eq-eqb _ _ (c .before .if1 .taken)) (c .sqrt .ensures)
 
 returns-2 : tie.Need-returns-2
-unfolding kept
+unfolding secondNumber
 returns-2 c = rw (ne-eqb _ _ (c .if1 .left)) refl
 
-pub kept-spec : {M : Type 1} → statement M
-kept-spec = tie.close (tie.spec sqrt-requires element-write-ball returns returns-2)
+pub second-number-spec : {M : Type 1} → statement M
+second-number-spec = tie.close (tie.spec sqrt-requires returns returns-2)

@@ -1,0 +1,28 @@
+use mathlib.Core.Path.{_≡_, refl, sym, ap, _∙_}
+use mathlib.Core.List.{List, [], _∷_, _++_}
+use mathlib.Core.Logic.{⊎-elim}
+use Prim.Native.Nat.{ℕ, suc, _≤_, _<_, _*_, _-_, _+_}
+use native.Mathlib.Omega.{arith}
+use native.Mathlib.Numerals.{add-one}
+use native.Mathlib.Nat.{le-antisymm}
+use lib.ListN.{length, getD, take, drop, set, length-set}
+use lib.Ieee.{Float, nan}
+use borrow.Author.Needs.{needs}
+use Rattle.candidate.proofs.cuts.is_gone.Statement.{statement}
+use Rattle.candidate.proofs.cuts.is_gone.Tie as tie
+use Rattle.candidate.proofs.cuts.is_gone.Reads as reads
+use Rattle.candidate.proofs.cuts.is_gone.Lts as lts
+use Rattle.candidate.specs.Boxes.{spanAt}
+
+element-copy-out-result : tie.Need-element-copy-out-result
+element-copy-out-result c = search needs
+
+element-copy-out-result-2 : tie.Need-element-copy-out-result-2
+element-copy-out-result-2 c = search needs
+
+returns : tie.Need-returns
+unfolding spanAt
+returns c = refl
+
+pub is-gone-spec : {M : Type 1} → statement M
+is-gone-spec = tie.close (tie.spec element-copy-out-result element-copy-out-result-2 returns)
