@@ -1,14 +1,14 @@
 -- Laws of the losing balls. Assumes nothing.
-use Prim.Native.Nat.{ℕ, zero, suc, _+_, _-_, _≤_, _<_}
-use mathlib.Core.Bool.{Bool, true, false, _&&_, cond, false≢true}
+use Prim.Native.Nat.{ℕ, _+_, _-_, _≤_, _<_}
+use mathlib.Core.Bool.{Bool, true, false, _&&_, false≢true}
 use mathlib.Core.Path.{_≡_, refl, sym, ap, _∙_}
-use mathlib.Core.List.{List, []}
+use mathlib.Core.List.{List}
 use borrow.Author.Tests.{le-leb, lt-leb, leb-true, leb-false, lt-ltb, le-ltb}
 use native.Mathlib.Omega.{arith}
 use native.Mathlib.Numerals.{add-one}
 use lib.Dec.{leb}
 use lib.ListN.{length}
-use lib.Ieee.{Float, nan}
+use lib.Ieee.{Float}
 use Rattle.floats.specs.Numbers.{_≤ᶠ_, +0}
 use Rattle.readings.proofs.PartLaws.{tab-at}
 use Rattle.candidate.specs.declared.Ball.{Ball}

@@ -1,5 +1,5 @@
 -- Laws of cutting: what each way through it comes to, and one ball more. Assumes nothing.
-use Prim.Native.Nat.{ℕ, zero, suc, _+_, _-_, _≤_, _<_}
+use Prim.Native.Nat.{ℕ, zero, suc, _+_, _-_, _≤_}
 use mathlib.Core.Bool.{Bool, true, false, _||_, cond, true≢false}
 use mathlib.Core.Path.{_≡_, refl, sym, ap, _∙_}
 use mathlib.Core.List.{List}
@@ -13,7 +13,7 @@ use Rattle.floats.specs.Finite.{finite}
 use Rattle.candidate.specs.declared.Candidate.{Candidate}
 use Rattle.candidate.specs.declared.Ball.{Ball}
 use Rattle.candidate.specs.declared.boxes.Span.{Span}
-use Rattle.candidate.specs.Boxes.{at, ballOf, spanAt, withSpan, overChannels, alongEach, gone}
+use Rattle.candidate.specs.Boxes.{ballOf, spanAt, withSpan, overChannels, alongEach, gone}
 use Rattle.candidate.specs.Balls.{ballAt}
 use Rattle.candidate.specs.Cuts.{far2, inside, moved, cutEnds, cutSpan, cutBy, cutByRoot, cutTo}
 use Rattle.candidate.proofs.BoxLaws.{span-beside}

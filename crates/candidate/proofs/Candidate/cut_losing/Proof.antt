@@ -1,20 +1,7 @@
-use mathlib.Core.Path.{_≡_, refl, sym, ap, _∙_}
-use mathlib.Core.List.{List, [], _∷_, _++_}
-use mathlib.Core.Logic.{⊎-elim}
-use Prim.Native.Nat.{ℕ, suc, _≤_, _<_, _*_, _-_, _+_}
-use native.Mathlib.Omega.{arith}
-use native.Mathlib.Numerals.{add-one}
-use native.Mathlib.Nat.{le-antisymm}
-use lib.ListN.{length, getD, take, drop, set, length-set}
-use lib.Ieee.{Float, nan}
+use mathlib.Core.Path.{refl, sym, _∙_}
 use borrow.Author.Needs.{needs}
 use Rattle.candidate.proofs.Candidate.cut_losing.Statement.{statement}
 use Rattle.candidate.proofs.Candidate.cut_losing.Tie as tie
-use Rattle.candidate.proofs.Candidate.cut_losing.Reads as reads
-use Rattle.candidate.proofs.Candidate.cut_losing.Lts as lts
-use Rattle.candidate.proofs.balls.has_room.Reads as has-room-reads
-use Rattle.candidate.proofs.cuts.cut_one.Reads as cut-one-reads
-use Rattle.candidate.proofs.cuts.cut_two.Reads as cut-two-reads
 use Rattle.candidate.specs.Cuts.{cutIn}
 use Rattle.candidate.proofs.BallLaws.{room-fits}
 use borrow.Author.Tests.{eq-eqb, ne-eqb}

@@ -1,19 +1,7 @@
-use mathlib.Core.Path.{_≡_, refl, sym, ap, _∙_}
-use mathlib.Core.List.{List, [], _∷_, _++_}
-use mathlib.Core.Logic.{⊎-elim}
-use Prim.Native.Nat.{ℕ, suc, _≤_, _<_, _*_, _-_, _+_}
-use native.Mathlib.Omega.{arith}
-use native.Mathlib.Numerals.{add-one}
-use native.Mathlib.Nat.{le-antisymm}
-use lib.ListN.{length, getD, take, drop, set, length-set}
-use lib.Ieee.{Float, nan}
+use mathlib.Core.Path.{_∙_}
 use borrow.Author.Needs.{needs}
 use Rattle.candidate.proofs.Candidate.restrict.Statement.{statement}
 use Rattle.candidate.proofs.Candidate.restrict.Tie as tie
-use Rattle.candidate.proofs.Candidate.restrict.Reads as reads
-use Rattle.candidate.proofs.Candidate.restrict.Lts as lts
-use Rattle.candidate.proofs.Candidate.restrict_one.Reads as restrict-one-reads
-use Rattle.candidate.proofs.Candidate.restrict_two.Reads as restrict-two-reads
 use Rattle.candidate.proofs.BoxLaws.{restrict-one, restrict-two}
 
 element-copy-out-restrict-one : tie.Need-element-copy-out-restrict-one

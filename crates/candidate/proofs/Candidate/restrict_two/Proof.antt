@@ -1,25 +1,7 @@
-use mathlib.Core.Path.{_≡_, refl, sym, ap, _∙_}
-use mathlib.Core.List.{List, [], _∷_, _++_}
-use mathlib.Core.Logic.{⊎-elim}
-use Prim.Native.Nat.{ℕ, suc, _≤_, _<_, _*_, _-_, _+_}
-use native.Mathlib.Omega.{arith}
-use native.Mathlib.Numerals.{add-one}
-use native.Mathlib.Nat.{le-antisymm}
-use lib.ListN.{length, getD, take, drop, set, length-set}
-use lib.Ieee.{Float, nan}
+use mathlib.Core.Path.{sym, _∙_}
 use borrow.Author.Needs.{needs}
 use Rattle.candidate.proofs.Candidate.restrict_two.Statement.{statement}
 use Rattle.candidate.proofs.Candidate.restrict_two.Tie as tie
-use Rattle.candidate.proofs.Candidate.restrict_two.Reads as reads
-use Rattle.candidate.proofs.Candidate.restrict_two.Lts as lts
-use Rattle.candidate.proofs.boxes.first.Reads as first-reads
-use Rattle.candidate.proofs.boxes.gap2.Reads as gap2-reads
-use Rattle.candidate.proofs.boxes.missed.Reads as missed-reads
-use Rattle.candidate.proofs.boxes.narrowed.Reads as narrowed-reads
-use Rattle.candidate.proofs.boxes.nothing.Reads as nothing-reads
-use Rattle.candidate.proofs.boxes.second.Reads as second-reads
-use Rattle.candidate.proofs.boxes.with_first.Reads as with-first-reads
-use Rattle.candidate.proofs.boxes.with_second.Reads as with-second-reads
 use Rattle.candidate.proofs.BoxLaws.{two-missed, two-met}
 
 first-requires : tie.Need-first-requires

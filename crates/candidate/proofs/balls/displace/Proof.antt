@@ -1,22 +1,6 @@
-use mathlib.Core.Path.{_≡_, refl, sym, ap, _∙_}
-use mathlib.Core.List.{List, [], _∷_, _++_}
-use mathlib.Core.Logic.{⊎-elim}
-use Prim.Native.Nat.{ℕ, suc, _≤_, _<_, _*_, _-_, _+_}
-use native.Mathlib.Omega.{arith}
-use native.Mathlib.Numerals.{add-one}
-use native.Mathlib.Nat.{le-antisymm}
-use lib.ListN.{length, getD, take, drop, set, length-set}
-use lib.Ieee.{Float, nan}
 use borrow.Author.Needs.{needs}
 use Rattle.candidate.proofs.balls.displace.Statement.{statement}
 use Rattle.candidate.proofs.balls.displace.Tie as tie
-use Rattle.candidate.proofs.balls.displace.Reads as reads
-use Rattle.candidate.proofs.balls.displace.Lts as lts
-use Rattle.candidate.proofs.balls.copy_last.Reads as copy-last-reads
-use Rattle.candidate.proofs.balls.narrowest.Reads as narrowest-reads
-use Rattle.candidate.proofs.balls.put_ball.Reads as put-ball-reads
-use Rattle.candidate.proofs.balls.radius_at.Reads as radius-at-reads
-use Rattle.candidate.proofs.balls.second_number.Reads as second-number-reads
 use Rattle.candidate.proofs.BallLaws.{displaced-not, displaced-so, other-second}
 
 narrowest-requires : tie.Need-narrowest-requires

@@ -1,17 +1,6 @@
-use mathlib.Core.Path.{_≡_, refl, sym, ap, _∙_}
-use mathlib.Core.List.{List, [], _∷_, _++_}
-use mathlib.Core.Logic.{⊎-elim}
-use Prim.Native.Nat.{ℕ, suc, _≤_, _<_, _*_, _-_, _+_}
-use native.Mathlib.Omega.{arith}
-use native.Mathlib.Numerals.{add-one}
-use native.Mathlib.Nat.{le-antisymm}
-use lib.ListN.{length, getD, take, drop, set, length-set}
-use lib.Ieee.{Float, nan}
-use borrow.Author.Needs.{needs}
+use mathlib.Core.Path.{sym}
 use Rattle.candidate.proofs.balls.has_room.Statement.{statement}
 use Rattle.candidate.proofs.balls.has_room.Tie as tie
-use Rattle.candidate.proofs.balls.has_room.Reads as reads
-use Rattle.candidate.proofs.balls.has_room.Lts as lts
 use Rattle.candidate.proofs.BallLaws.{room-rest, room-short, room-many}
 
 returns : tie.Need-returns

@@ -1,19 +1,7 @@
-use mathlib.Core.Path.{_≡_, refl, sym, ap, _∙_}
-use mathlib.Core.List.{List, [], _∷_, _++_}
-use mathlib.Core.Logic.{⊎-elim}
-use Prim.Native.Nat.{ℕ, suc, _≤_, _<_, _*_, _-_, _+_}
-use native.Mathlib.Omega.{arith}
-use native.Mathlib.Numerals.{add-one}
-use native.Mathlib.Nat.{le-antisymm}
-use lib.ListN.{length, getD, take, drop, set, length-set}
-use lib.Ieee.{Float, nan}
+use mathlib.Core.Path.{sym, _∙_}
 use borrow.Author.Needs.{needs}
 use Rattle.candidate.proofs.balls.lose_inside.Statement.{statement}
 use Rattle.candidate.proofs.balls.lose_inside.Tie as tie
-use Rattle.candidate.proofs.balls.lose_inside.Reads as reads
-use Rattle.candidate.proofs.balls.lose_inside.Lts as lts
-use Rattle.candidate.proofs.balls.has_room.Reads as has-room-reads
-use Rattle.candidate.proofs.balls.lose.Reads as lose-reads
 use Rattle.candidate.specs.Balls.{kept}
 use Rattle.candidate.proofs.BallLaws.{room-fits, lost-here, lost-not}
 

@@ -1,20 +1,10 @@
 use mathlib.Core.Path.{_≡_, refl, sym, ap, _∙_}
-use mathlib.Core.List.{List, [], _∷_, _++_}
-use mathlib.Core.Logic.{⊎-elim}
-use Prim.Native.Nat.{ℕ, suc, _≤_, _<_, _*_, _-_, _+_}
+use Prim.Native.Nat.{_≤_, _-_, _+_}
 use native.Mathlib.Omega.{arith}
-use native.Mathlib.Numerals.{add-one}
-use native.Mathlib.Nat.{le-antisymm}
-use lib.ListN.{length, getD, take, drop, set, length-set}
-use lib.Ieee.{Float, nan}
 use borrow.Author.Needs.{needs}
 use Rattle.candidate.proofs.balls.narrowest.Statement.{statement}
 use Rattle.candidate.proofs.balls.narrowest.Tie as tie
-use Rattle.candidate.proofs.balls.narrowest.Reads as reads
-use Rattle.candidate.proofs.balls.narrowest.Lts as lts
-use Rattle.candidate.proofs.balls.ahead.Reads as ahead-reads
-use Rattle.candidate.proofs.balls.radius_at.Reads as radius-at-reads
-use Rattle.candidate.specs.Balls.{held, heldAt, ahead, narrowestTo}
+use Rattle.candidate.specs.Balls.{held, ahead, narrowestTo}
 use Rattle.candidate.proofs.BallLaws.{ball-read, narrower, not-narrower}
 use denote.Ref.{now}
 use mathlib.Core.Path.{ap₂}

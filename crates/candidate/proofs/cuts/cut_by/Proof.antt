@@ -1,23 +1,6 @@
-use mathlib.Core.Path.{_≡_, refl, sym, ap, _∙_}
-use mathlib.Core.List.{List, [], _∷_, _++_}
-use mathlib.Core.Logic.{⊎-elim}
-use Prim.Native.Nat.{ℕ, suc, _≤_, _<_, _*_, _-_, _+_}
-use native.Mathlib.Omega.{arith}
-use native.Mathlib.Numerals.{add-one}
-use native.Mathlib.Nat.{le-antisymm}
-use lib.ListN.{length, getD, take, drop, set, length-set}
-use lib.Ieee.{Float, nan}
 use borrow.Author.Needs.{needs}
 use Rattle.candidate.proofs.cuts.cut_by.Statement.{statement}
 use Rattle.candidate.proofs.cuts.cut_by.Tie as tie
-use Rattle.candidate.proofs.cuts.cut_by.Reads as reads
-use Rattle.candidate.proofs.cuts.cut_by.Lts as lts
-use Rattle.candidate.proofs.boxes.first.Reads as first-reads
-use Rattle.candidate.proofs.boxes.second.Reads as second-reads
-use Rattle.candidate.proofs.boxes.with_first.Reads as with-first-reads
-use Rattle.candidate.proofs.boxes.with_second.Reads as with-second-reads
-use Rattle.candidate.proofs.cuts.cut_span.Reads as cut-span-reads
-use Rattle.candidate.proofs.cuts.far2.Reads as far2-reads
 use Rattle.candidate.proofs.CutLaws.{cut-two}
 
 first-requires : tie.Need-first-requires

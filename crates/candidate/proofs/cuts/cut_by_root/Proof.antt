@@ -1,24 +1,7 @@
-use mathlib.Core.Path.{_≡_, refl, sym, ap, _∙_}
-use mathlib.Core.List.{List, [], _∷_, _++_}
-use mathlib.Core.Logic.{⊎-elim}
-use Prim.Native.Nat.{ℕ, suc, _≤_, _<_, _*_, _-_, _+_}
-use native.Mathlib.Omega.{arith}
-use native.Mathlib.Numerals.{add-one}
-use native.Mathlib.Nat.{le-antisymm}
-use lib.ListN.{length, getD, take, drop, set, length-set}
-use lib.Ieee.{Float, nan}
+use mathlib.Core.Path.{sym, _∙_}
 use borrow.Author.Needs.{needs}
 use Rattle.candidate.proofs.cuts.cut_by_root.Statement.{statement}
 use Rattle.candidate.proofs.cuts.cut_by_root.Tie as tie
-use Rattle.candidate.proofs.cuts.cut_by_root.Reads as reads
-use Rattle.candidate.proofs.cuts.cut_by_root.Lts as lts
-use Rattle.candidate.proofs.boxes.first.Reads as first-reads
-use Rattle.candidate.proofs.boxes.with_first.Reads as with-first-reads
-use Rattle.candidate.proofs.cuts.cut_ends.Reads as cut-ends-reads
-use Rattle.candidate.proofs.cuts.far2.Reads as far2-reads
-use Rattle.candidate.proofs.cuts.inside.Reads as inside-reads
-use Rattle.candidate.proofs.flags.either.Reads as either-reads
-use Rattle.floats.proofs.finite.Reads as finite-reads
 use mathlib.Core.Path.{ap₂}
 use mathlib.Core.Bool.{_||_}
 use Rattle.candidate.proofs.CutLaws.{root-hit, root-far, root-outside}

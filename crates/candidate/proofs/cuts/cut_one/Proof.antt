@@ -1,21 +1,11 @@
 use mathlib.Core.Path.{_≡_, refl, sym, ap, _∙_}
-use mathlib.Core.List.{List, [], _∷_, _++_}
-use mathlib.Core.Logic.{⊎-elim}
-use Prim.Native.Nat.{ℕ, suc, _≤_, _<_, _*_, _-_, _+_}
+use Prim.Native.Nat.{_≤_, _-_}
 use native.Mathlib.Omega.{arith}
-use native.Mathlib.Numerals.{add-one}
-use native.Mathlib.Nat.{le-antisymm}
-use lib.ListN.{length, getD, take, drop, set, length-set}
-use lib.Ieee.{Float, nan}
 use borrow.Author.Needs.{needs}
 use Rattle.candidate.proofs.cuts.cut_one.Statement.{statement}
 use Rattle.candidate.proofs.cuts.cut_one.Tie as tie
-use Rattle.candidate.proofs.cuts.cut_one.Reads as reads
-use Rattle.candidate.proofs.cuts.cut_one.Lts as lts
-use Rattle.candidate.proofs.cuts.cut_by_root.Reads as cut-by-root-reads
-use Rattle.candidate.proofs.cuts.is_gone.Reads as is-gone-reads
 use Rattle.candidate.specs.Balls.{held, heldAt}
-use Rattle.candidate.specs.Cuts.{cutTo, cutBy, cutRooted}
+use Rattle.candidate.specs.Cuts.{cutTo, cutRooted}
 use Rattle.candidate.proofs.CutLaws.{cut-more, cut-gone}
 use Rattle.candidate.proofs.BallLaws.{ball-read}
 

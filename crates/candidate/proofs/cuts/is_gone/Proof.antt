@@ -1,17 +1,7 @@
-use mathlib.Core.Path.{_≡_, refl, sym, ap, _∙_}
-use mathlib.Core.List.{List, [], _∷_, _++_}
-use mathlib.Core.Logic.{⊎-elim}
-use Prim.Native.Nat.{ℕ, suc, _≤_, _<_, _*_, _-_, _+_}
-use native.Mathlib.Omega.{arith}
-use native.Mathlib.Numerals.{add-one}
-use native.Mathlib.Nat.{le-antisymm}
-use lib.ListN.{length, getD, take, drop, set, length-set}
-use lib.Ieee.{Float, nan}
+use mathlib.Core.Path.{refl}
 use borrow.Author.Needs.{needs}
 use Rattle.candidate.proofs.cuts.is_gone.Statement.{statement}
 use Rattle.candidate.proofs.cuts.is_gone.Tie as tie
-use Rattle.candidate.proofs.cuts.is_gone.Reads as reads
-use Rattle.candidate.proofs.cuts.is_gone.Lts as lts
 use Rattle.candidate.specs.Boxes.{spanAt}
 
 element-copy-out-result : tie.Need-element-copy-out-result
