@@ -3,3 +3,4 @@ pub mod CutLaws
 pub mod BallLaws
 pub mod Outcomes
 pub mod Examples
+pub mod AreaLaws
