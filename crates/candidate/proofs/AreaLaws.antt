@@ -3,8 +3,8 @@ use Prim.Native.Nat.{ℕ, zero, suc, _+_, _≤_, _<_}
 use mathlib.Core.Bool.{Bool, true, false, _||_, cond, false≢true}
 use mathlib.Core.Logic.{_≢_}
 use mathlib.Core.Path.{_≡_, refl, sym, ap, ap₂, _∙_, subst}
-use mathlib.Core.List.{List, [], _∷_, _++_}
-use borrow.Author.Tests.{eq-eqb, lt-ltb, le-ltb, ltb-true, ltb-false}
+use mathlib.Core.List.{[], List, _∷_, _++_}
+use borrow.Author.Tests.{eq-eqb, ltb-true, ltb-false}
 use native.Mathlib.Decide.{ℕ-discrete}
 use native.Mathlib.Omega.{arith}
 use lib.Dec.{ltb, eqb}
@@ -55,11 +55,11 @@ module _ (area : List Float) (place i : ℕ) (b : Ball) (room : place + 192 ≤ 
       let x = set area (place + i) (at (b .centre) 0) in
       let y = set x (place + 64 + i) (at (b .centre) 1) in
       let one : getD (set y (place + 128 + i) (b .r2)) (place + i) nan ≡ at (b .centre) 0 =
-          getD-set-other y (place + 128 + i) (place + i) (b .r2) nan (omega arith) ∙ getD-set-other x (place + 64 + i) (place + i) (at (b .centre) 1) nan (omega arith) ∙ getD-set-same area (place + i) (at (b .centre) 0) nan (omega arith) in
+      getD-set-other y (place + 128 + i) (place + i) (b .r2) nan (omega arith) ∙ getD-set-other x (place + 64 + i) (place + i) (at (b .centre) 1) nan (omega arith) ∙ getD-set-same area (place + i) (at (b .centre) 0) nan (omega arith) in
       let two : getD (set y (place + 128 + i) (b .r2)) (place + 64 + i) nan ≡ at (b .centre) 1 =
-          getD-set-other y (place + 128 + i) (place + 64 + i) (b .r2) nan (omega arith) ∙ getD-set-same x (place + 64 + i) (at (b .centre) 1) nan (simp length-set (omega arith)) in
+      getD-set-other y (place + 128 + i) (place + 64 + i) (b .r2) nan (omega arith) ∙ getD-set-same x (place + 64 + i) (at (b .centre) 1) nan (simp length-set (omega arith)) in
       let three : getD (set y (place + 128 + i) (b .r2)) (place + 128 + i) nan ≡ b .r2 =
-          getD-set-same y (place + 128 + i) (b .r2) nan (simp length-set (omega arith)) in
+      getD-set-same y (place + 128 + i) (b .r2) nan (simp length-set (omega arith)) in
       rw (one, two, three) refl
 
   pub put-frame : {x : List Float} → Frame x area place 192 → Frame x (putBall area place i b) place 192
@@ -139,16 +139,16 @@ module _ (view : Ball → Ball) (keeps : (b : Ball) → view b .r2 ≡ b .r2) (a
   pushed count h =
       tab-more (λ j. view (heldAt (putBall area place count (ballOf c d r2)) place j)) count
       ∙ ap₂ (λ (l : List Ball) (b : Ball). l ++ (b ∷ []))
-        (tab-same (λ j. view (heldAt (putBall area place count (ballOf c d r2)) place j)) (λ j. view (heldAt area place j)) count
-          (λ j l. ap view (put-other area place count (ballOf c d r2) room h j (omega arith) (omega arith))))
-        (ap view (put-same area place count (ballOf c d r2) room h))
+      (tab-same (λ j. view (heldAt (putBall area place count (ballOf c d r2)) place j)) (λ j. view (heldAt area place j)) count
+      (λ j l. ap view (put-other area place count (ballOf c d r2) room h j (omega arith) (omega arith))))
+      (ap view (put-same area place count (ballOf c d r2) room h))
 
   pub seen-lost : (count : ℕ) → count ≤ 64 → seen (areaWith area place count (ballOf c d r2)) (countWith count r2) ≡ loseInside (view (ballOf c d r2)) (seen area count)
   unfolding areaWith countWith
   seen-lost count h =
       side (r2 ≤ᶠ +0) (ltb count 64) refl
       ∙ sym (lose-by (view (ballOf c d r2)) (seen area count) (r2 ≤ᶠ +0) (ltb count 64) (ap (λ (x : Float). x ≤ᶠ +0) (keeps (ballOf c d r2)))
-             (ap (λ (n : ℕ). ltb n 64) (tab-length (λ j. view (heldAt area place j)) count)))
+      (ap (λ (n : ℕ). ltb n 64) (tab-length (λ j. view (heldAt area place j)) count)))
     where
       side : (s t : Bool) → ltb count 64 ≡ t
           → seen (cond s area (cond t (putBall area place count (ballOf c d r2)) (displaced area place (ballOf c d r2)))) (cond s count (cond t (count + 1) count))

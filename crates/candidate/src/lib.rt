@@ -5,7 +5,8 @@
 // as 2. Each result, and each area afterwards, is to the bit what the definition says that its
 // contract names: `specs/Boxes` for the box and the ball that narrows it, `specs/Balls` for the
 // losing balls and how they stand in an area, `specs/Cuts` for what they cut from the box. That in an
-// area this is what happens to the list of balls which it stands for, is said in `proofs/AreaLaws`.
+// area this is what the definitions do to the list of balls which it stands for, is said in
+// `proofs/AreaLaws` and `proofs/RootLaws`.
 mod balls;
 mod boxes;
 mod cuts;
