@@ -1,0 +1,3 @@
+pub mod Boxes
+pub mod Balls
+pub mod Cuts

@@ -1,0 +1,137 @@
+// The box, and the ball that narrows it.
+ghost use mathlib.Core.Path.{_≡_};
+ghost use Rattle.candidate.specs.Boxes.{gap2, narrowed, missed, nothing, spanAt, withSpan, ballOf, restrict, isDominated};
+use crate::Ball;
+use crate::Candidate;
+use crate::flags::either;
+use elementary::sqrt;
+use floats::max;
+use floats::min;
+
+// A side of the box, along one channel.
+pub struct Span {
+    pub lo: f64,
+    pub hi: f64,
+}
+
+// The square of the distance from c to the span.
+fn gap2(span: Span, c: f64) -> f64
+    ensures { λ r. ⌜ r ≡ gap2 span c ⌝ }
+{
+    let gap = max(max(span.lo - c, c - span.hi), 0.0);
+    gap * gap
+}
+
+// The part of the span that a ball reaches about c, where `room` is what the other channels leave of
+// the square of its radius.
+fn narrowed(span: Span, c: f64, room: f64) -> Span
+    ensures { λ r. ⌜ r ≡ narrowed span c room ⌝ }
+{
+    let w = sqrt(max(room, 0.0));
+    let lo = max(span.lo, c - w);
+    let hi = min(span.hi, c + w);
+    Span { lo, hi }
+}
+
+// Whether a ball is empty, or does not reach over the sum of the gaps.
+fn missed(r2: f64, total: f64) -> bool
+    ensures { λ r. ⌜ r ≡ missed r2 total ⌝ }
+{
+    either(r2 < 0.0, r2 < total)
+}
+
+fn nothing() -> Span
+    ensures { λ r. ⌜ r ≡ nothing ⌝ }
+{
+    Span {
+        lo: f64::from_bits(0x7ff0_0000_0000_0000),
+        hi: f64::from_bits(0xfff0_0000_0000_0000),
+    }
+}
+
+// The sides of a box, and the box with another side.
+pub fn first(candidate: Candidate) -> Span
+    ensures { λ r. ⌜ r ≡ spanAt candidate 0 ⌝ }
+{
+    Span {
+        lo: candidate.lo[0],
+        hi: candidate.hi[0],
+    }
+}
+
+pub fn second(candidate: Candidate) -> Span
+    ensures { λ r. ⌜ r ≡ spanAt candidate 1 ⌝ }
+{
+    Span {
+        lo: candidate.lo[1],
+        hi: candidate.hi[1],
+    }
+}
+
+pub fn with_first(mut candidate: Candidate, span: Span) -> Candidate
+    ensures { λ r. ⌜ r ≡ withSpan 0 span candidate ⌝ }
+{
+    candidate.lo[0] = span.lo;
+    candidate.hi[0] = span.hi;
+    candidate
+}
+
+pub fn with_second(mut candidate: Candidate, span: Span) -> Candidate
+    ensures { λ r. ⌜ r ≡ withSpan 1 span candidate ⌝ }
+{
+    candidate.lo[1] = span.lo;
+    candidate.hi[1] = span.hi;
+    candidate
+}
+
+impl Candidate {
+    fn restrict_one(self, c: f64, r2: f64) -> Candidate
+        ensures { λ r. ⌜ r ≡ restrict 1 (ballOf c c r2) self ⌝ }
+    {
+        let x = first(self);
+        let gap = gap2(x, c);
+        if missed(r2, gap) {
+            return with_first(self, nothing());
+        }
+        with_first(self, narrowed(x, c, r2 - (gap - gap)))
+    }
+
+    fn restrict_two(self, c: f64, d: f64, r2: f64) -> Candidate
+        ensures { λ r. ⌜ r ≡ restrict 2 (ballOf c d r2) self ⌝ }
+    {
+        let x = first(self);
+        let y = second(self);
+        let gap = gap2(x, c);
+        let gap_beside = gap2(y, d);
+        let total = gap + gap_beside;
+        if missed(r2, total) {
+            return with_first(self, nothing());
+        }
+        let narrow = with_first(self, narrowed(x, c, r2 - (total - gap)));
+        with_second(narrow, narrowed(y, d, r2 - (total - gap_beside)))
+    }
+
+    // Narrows the box to the smallest box around what it shares with the ball. Cost: a root for each
+    // channel.
+    pub fn restrict(mut self, channels: usize, ball: Ball) -> Candidate
+        ensures { λ r. ⌜ r ≡ restrict channels ball self ⌝ }
+    {
+        if channels == 1 {
+            self = self.restrict_one(ball.centre[0], ball.r2);
+            return self;
+        }
+        self = self.restrict_two(ball.centre[0], ball.centre[1], ball.r2);
+        self
+    }
+
+    // Whether nothing is left of the box.
+    pub fn is_dominated(self, channels: usize) -> bool
+        ensures { λ r. ⌜ r ≡ isDominated channels self ⌝ }
+    {
+        let first = self.hi[0] < self.lo[0];
+        if channels == 1 {
+            return first;
+        }
+        either(first, self.hi[1] < self.lo[1])
+    }
+}
