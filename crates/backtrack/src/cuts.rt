@@ -46,11 +46,11 @@ fn fill_cuts(indices: &[usize], n: usize, count: usize, cuts: &mut [usize])
     ensures { λ r. ⌜ now (cuts .exit) ≡ written (cutsOf (now (indices .entry)) n) (now (cuts .entry)) ⌝ }
 {
     let mut left = count;
-    let mut t = predecessor(indices, n);
-    while 0 < t {
-        put(cuts, left - 1, t);
+    let mut cut = predecessor(indices, n);
+    while 0 < cut {
+        put(cuts, left - 1, cut);
         left -= 1;
-        t = predecessor(indices, t);
+        cut = predecessor(indices, cut);
     }
 }
 
