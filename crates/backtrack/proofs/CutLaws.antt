@@ -140,15 +140,25 @@ pieces-half {n = n} {cs} r h = omega (arith, ends-apart r h (length cs + 1) (ome
 pub cuts-half : {m : ℕ} {last : List ℕ} (n : ℕ) → Sound m last → 2 ≤ m → length (cutsOf last n) ≤ n / 2
 cuts-half n s h = cuts-either (λ cs. length cs ≤ n / 2) n s (omega arith) (λ r. pieces-half r h)
 
--- with so much room the cuts by the predecessors at the front of the indices fill the front of the area, and the rest is unchanged
-room-written : {m n : ℕ} (last rest : List ℕ) {before after : List ℕ} {r : ℕ} → Backtracked (last ++ rest) n before after r → Sound m last → 2 ≤ m → n < length last → n / 2 ≤ length before → after ≡ cutsOf last n ++ drop r before
-room-written {n = n} last rest {before} b s h l g =
-    let e = cuts-front last rest n l in
+-- the number and the cuts are those by the predecessors of 0 to n, whatever else the indices hold
+pub front-count : {n : ℕ} (last rest : List ℕ) {before after : List ℕ} {r : ℕ} → Backtracked (last ++ rest) n before after r → n < length last → r ≡ length (cutsOf last n)
+front-count {n} last rest b l = b .count ∙ ap length (cuts-front last rest n l)
+
+front-written : {m n : ℕ} (last rest : List ℕ) {before after : List ℕ} {r : ℕ} → Backtracked (last ++ rest) n before after r → Sound m last → 2 ≤ m → n < length last → n / 2 ≤ length before
+    → after ≡ cutsOf last n ++ drop r before
+front-written {n = n} last rest {before} b s h l g =
     let few = cuts-half n s h in
-    b .cuts ∙ ap (λ (cs : List ℕ). written cs before) e ∙ written-room (cutsOf last n) before (omega arith) ∙ ap (λ (r : ℕ). cutsOf last n ++ drop r before) (sym (b .count ∙ ap length e))
+    b .cuts
+    ∙ ap (λ (cs : List ℕ). written cs before) (cuts-front last rest n l)
+    ∙ written-room (cutsOf last n) before (omega arith)
+    ∙ ap (λ (k : ℕ). cutsOf last n ++ drop k before) (sym (front-count last rest b l))
 
-pub room-front : {m n : ℕ} (last rest : List ℕ) {before after : List ℕ} {r : ℕ} → Backtracked (last ++ rest) n before after r → Sound m last → 2 ≤ m → n < length last → n / 2 ≤ length before → take r after ≡ cutsOf last n
-room-front {n = n} last rest {r = r} b s h l g = rw (room-written last rest b s h l g) (take-at (cutsOf last n) _ r (sym (b .count ∙ ap length (cuts-front last rest n l))))
+-- with that room they fill the front of the area
+pub room-front : {m n : ℕ} (last rest : List ℕ) {before after : List ℕ} {r : ℕ} → Backtracked (last ++ rest) n before after r → Sound m last → 2 ≤ m → n < length last → n / 2 ≤ length before
+    → take r after ≡ cutsOf last n
+room-front {n = n} last rest {r = r} b s h l g = rw (front-written last rest b s h l g) (take-at (cutsOf last n) _ r (sym (front-count last rest b l)))
 
-pub room-rest : {m n : ℕ} (last rest : List ℕ) {before after : List ℕ} {r : ℕ} → Backtracked (last ++ rest) n before after r → Sound m last → 2 ≤ m → n < length last → n / 2 ≤ length before → drop r after ≡ drop r before
-room-rest {n = n} last rest {r = r} b s h l g = rw (room-written last rest b s h l g) (drop-at (cutsOf last n) _ r (sym (b .count ∙ ap length (cuts-front last rest n l))))
+-- and the rest is unchanged
+pub room-rest : {m n : ℕ} (last rest : List ℕ) {before after : List ℕ} {r : ℕ} → Backtracked (last ++ rest) n before after r → Sound m last → 2 ≤ m → n < length last → n / 2 ≤ length before
+    → drop r after ≡ drop r before
+room-rest {n = n} last rest {r = r} b s h l g = rw (front-written last rest b s h l g) (drop-at (cutsOf last n) _ r (sym (front-count last rest b l)))

@@ -56,7 +56,7 @@ fn fill_cuts(indices: &[usize], n: usize, count: usize, cuts: &mut [usize])
 
 // The cuts of n readings by the predecessors of 0 to n at the front of the indices: how many they are,
 // and they themselves, lowest first, in the front of `cuts` as far as it has room. Too few indices
-// for n are no cuts. Cost: two walks back, one turn for each cut.
+// for n give no cuts. Cost: two walks back with one turn for each cut; a search leaves at most n/2.
 pub fn backtrack(indices: &[usize], n: usize, cuts: &mut [usize]) -> usize
     ensures { λ r. ⌜ Backtracked (now (indices .entry)) n (now (cuts .entry)) (now (cuts .exit)) r ⌝ }
 {
