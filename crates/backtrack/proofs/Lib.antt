@@ -1,0 +1,4 @@
+pub mod WalkLaws
+pub mod WrittenLaws
+pub mod CutLaws
+pub mod Examples

@@ -1,0 +1,3 @@
+pub mod Cuts
+pub mod Backtracked
+pub mod Pieces
