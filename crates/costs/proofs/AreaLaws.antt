@@ -50,7 +50,7 @@ fitted size n k a b e = go (ltb a b) (leb b n) (leb n 4096) (leb k 8) (leb (k * 
     go false u v w x p q r s o e = absurd (false≢true e)
 
 -- ---- where the area holds the sums of a run
-held-segment : {xs : List Float} {n : ℕ} {area : List Float} {place : ℕ} (a b : ℕ) → Held xs (meanOf xs) n area place → a ≤ n → b ≤ n → segmentAt area n place a b ≡ segmentOf xs a b
+pub held-segment : {xs : List Float} {n : ℕ} {area : List Float} {place : ℕ} (a b : ℕ) → Held xs (meanOf xs) n area place → a ≤ n → b ≤ n → segmentAt area n place a b ≡ segmentOf xs a b
 unfolding segmentAt segmentOf segmentAbout
 held-segment {xs} {n} {area} {place} a b r h l =
     let m = meanOf xs in

@@ -4,7 +4,6 @@ use mathlib.Core.Bool.{Bool, true, false, true≢false}
 use mathlib.Core.Path.{_≡_, refl, sym, ap, ap₂, _∙_}
 use mathlib.Core.List.{List, _++_}
 use native.Mathlib.Omega.{arith}
-use native.Mathlib.Nat.{mul-le-mul, add-mul, mul-assoc, mul-comm}
 use lib.ListN.{length, take, drop, replicate}
 use lib.Ieee.{Float}
 use Rattle.floats.specs.Numbers.{+0}
@@ -13,16 +12,13 @@ use Rattle.areas.specs.Cleared.{Cleared}
 use Rattle.areas.proofs.ClearedLaws.{cleared-whole, cleared-tail}
 use Rattle.costs.specs.declared.CostFunction.{CostFunction}
 use Rattle.recurrence.specs.Room.{searchFits}
-use Rattle.recurrence.proofs.RoomLaws.{Series, Roomy, fits-series, fits-room}
+use Rattle.recurrence.proofs.RoomLaws.{Series, Roomy, split-floats}
 use Rattle.inequality.specs.declared.Plan.{Plan}
 use Rattle.inequality.specs.Inequality.{State, predecessors, price, stateAfter}
 use Rattle.inequality.specs.Pruned.{Pruned}
 use Rattle.inequality.specs.Held.{Room, planned, view, Holds}
 
 -- ---- the plan
-pub split-floats : (k w : ℕ) → (2 * k + 2) * w ≡ k * (2 * w) + w + w
-split-floats k w = simp (add-mul, mul-assoc, mul-comm) (omega (arith, add-mul (2 * k) 2 w, mul-assoc 2 k w))
-
 pub plan-room : (cost : CostFunction) (penalty : Float) (run n k m lf li f p c : ℕ) → Series run n k m → Roomy n k lf li → f ≡ k * (2 * (n + 1)) → p ≡ f + (n + 1) → c ≡ n + 1
     → Room (record { cost = cost; penalty = penalty; n = n; m = m; channels = k; f = f; p = p; c = c }) lf li
 plan-room cost penalty run n k m lf li f p c s r e g h =

@@ -3,7 +3,7 @@ use Prim.Native.Nat.{ℕ, _+_, _*_, _≤_}
 use mathlib.Core.Path.{_≡_, refl}
 use mathlib.Core.Bool.{Bool, true, false, _&&_, false≢true}
 use native.Mathlib.Omega.{arith}
-use native.Mathlib.Nat.{mul-le-mul}
+use native.Mathlib.Nat.{mul-le-mul, add-mul, mul-assoc, mul-comm}
 use borrow.Author.Tests.{leb-true}
 use lib.Dec.{leb}
 use Rattle.recurrence.specs.Room.{seriesFits, roomFits, searchFits}
@@ -19,6 +19,10 @@ and-second false b e = absurd (false≢true e)
 -- ---- no product wraps
 pub floats-small : (n k : ℕ) → k ≤ 8 → n ≤ 4096 → (2 * k + 2) * (n + 1) ≤ 73746
 floats-small n k h l = mul-le-mul {n₁ = 2 * k + 2} {m₁ = n + 1} {n₂ = 18} {m₂ = 4097} (omega arith) (omega arith)
+
+-- the work floats are the sums and two runs more
+pub split-floats : (k w : ℕ) → (2 * k + 2) * w ≡ k * (2 * w) + w + w
+split-floats k w = simp (add-mul, mul-assoc, mul-comm) (omega (arith, add-mul (2 * k) 2 w, mul-assoc 2 k w))
 
 -- ---- what fits
 pub record Series (run n k m : ℕ) : Type 0 where
