@@ -98,11 +98,14 @@ fn kinds() -> Vec<SeriesKind> {
     [&SERIES_KINDS[..], &DIFFERENCE_KINDS[..]].concat()
 }
 
-/// All of them, and some that are none: empty, backward, and past the end.
 fn all_segments(n: usize) -> Vec<(usize, usize)> {
     let ends = |start| (start + 1..=n).map(move |end| (start, end));
-    let none = [(0, 0), (n, n), (n, n - 1), (0, n + 1)];
-    (0..n).flat_map(ends).chain(none).collect()
+    (0..n).flat_map(ends).collect()
+}
+
+/// Empty, backward, and past the end.
+fn no_segments(n: usize) -> Vec<(usize, usize)> {
+    vec![(n, n), (n, n - 1), (0, n + 1)]
 }
 
 fn some_segments(random: &mut Random, n: usize, count: usize) -> Vec<(usize, usize)> {
@@ -128,19 +131,36 @@ fn single(random: &mut Random) -> Vec<Run> {
     runs
 }
 
-/// For each number of channels short ones of each kind, and as many of mixed kinds, with all segments.
-fn several(random: &mut Random) -> Vec<Run> {
-    let kinds = kinds();
+/// For each number of channels a run of each kind, all channels of one size, with all segments and some
+/// that are none.
+fn of_one_kind(random: &mut Random) -> Vec<Run> {
     let mut runs = Vec::new();
     for count in 1..=8 {
-        for at in 0..2 * kinds.len() {
+        for kind in kinds() {
             let n = 1 + random.below(5) as usize;
+            let (centre, scale) = SIZES[random.below(5).saturating_sub(2) as usize];
+            let channels = (0..count).map(|_| kind(random, centre, scale, n));
+            let channels: Vec<_> = channels.collect();
+            let segments = [all_segments(n), no_segments(n)].concat();
+            runs.push(Run::new(random, channels, segments));
+        }
+    }
+    runs
+}
+
+/// For each number of channels runs whose channels are of different kinds and sizes, all with finite
+/// costs, with all segments.
+fn mixed(random: &mut Random) -> Vec<Run> {
+    let plain = [&SERIES_KINDS[..5], &DIFFERENCE_KINDS[..]].concat();
+    let mut runs = Vec::new();
+    for count in 1..=8 {
+        for _ in 0..12 {
+            let n = 2 + random.below(5) as usize;
             let mut channels = Vec::new();
             for _ in 0..count {
-                let any = random.below(kinds.len() as u64) as usize;
-                let kind = if at < kinds.len() { at } else { any };
-                let (centre, scale) = SIZES[random.below(5).saturating_sub(2) as usize];
-                channels.push(kinds[kind](random, centre, scale, n));
+                let kind = plain[random.below(plain.len() as u64) as usize];
+                let (centre, scale) = SIZES[random.below(4).saturating_sub(2) as usize];
+                channels.push(kind(random, centre, scale, n));
             }
             runs.push(Run::new(random, channels, all_segments(n)));
         }
@@ -163,7 +183,8 @@ fn long(random: &mut Random) -> Vec<Run> {
 /// Of the short ones every seventh is in an area without room.
 pub fn runs(random: &mut Random) -> Vec<Run> {
     let mut short = single(random);
-    short.extend(several(random));
+    short.extend(of_one_kind(random));
+    short.extend(mixed(random));
     let lend = |(at, run): (usize, Run)| match at % 7 {
         6 => run.without_room(),
         _ => run,
