@@ -7,8 +7,8 @@ use crate::series::{SeriesKind, SERIES_KINDS};
 /// Series made for their differences.
 const DIFFERENCE_KINDS: [SeriesKind; 3] = [even_steps, near_ties, near_floor];
 
-/// A centre and a scale: the squares of ordinary differences, of some so small that their squares are
-/// subnormal, and of some so large that they are infinite.
+/// A centre and a scale: ordinary values, values so small that their squares are subnormal, and values
+/// so large that their squares are infinite.
 const SIZES: [(f64, f64); 3] = [(2.0, 1.0), (0.0, 1e-155), (0.0, 1e200)];
 
 /// Channels of one length, the segments whose costs are asked, and the area lent for the differences.
