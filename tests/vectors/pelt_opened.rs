@@ -17,3 +17,26 @@ pub fn opened_l2(signal: &[f64], start: usize, end: usize) -> f64 {
     let pelt = Pelt::new(CostFunction::L2, Penalty::Bic).expect("a search");
     pelt.segment_cost(&sums, &squares, start, end)
 }
+
+/// The noise variance of a channel.
+pub fn opened_noise(signal: &[f64]) -> f64 {
+    noise_variance(signal)
+}
+
+/// The noise variances of the channels, added as `resolve_penalty` adds them.
+pub fn opened_noise_sum(signals: &[&[f64]]) -> f64 {
+    signals.iter().map(|s| noise_variance(s)).sum::<f64>()
+}
+
+/// The L2 cost of a segment, added over the channels.
+pub fn opened_l2_of(signals: &[&[f64]], start: usize, end: usize) -> f64 {
+    let channels: Vec<Channel> = signals.iter().map(|s| Channel::new(s)).collect();
+    let pelt = Pelt::new(CostFunction::L2, Penalty::Bic).expect("a search");
+    pelt.cost_of(&channels, start, end)
+}
+
+/// The penalty of channels of n readings.
+pub fn opened_penalty(cost: CostFunction, penalty: Penalty, n: usize, signals: &[&[f64]]) -> f64 {
+    let pelt = Pelt::new(cost, penalty).expect("a search");
+    pelt.resolve_penalty(n, signals)
+}

@@ -1,6 +1,6 @@
-//! Writes stored answers of the Rust's sums, ranges and L2 costs, of the piece summaries that follow
-//! from them, and of Normal costs and penalties by document 01's logarithm. The crate `replay_sums`
-//! has them as its standard input:
+//! Writes stored answers of the Rust's sums, ranges, L2 costs and noise variances, of the piece
+//! summaries that follow from them, and of Normal costs and penalties by document 01's logarithm. The
+//! crate `replay_sums` has them as its standard input:
 //!
 //!     mkdir -p target
 //!     cat "$U_ANALYTICS/src/detection/pelt.rs" tests/vectors/pelt_opened.rs > target/pelt_opened.rs
@@ -24,16 +24,26 @@
 //! `q`, a penalty: a custom value, the sum of the noise variances, and the penalty by BIC for L2 and for
 //! Normal. Then 12 bytes: n and the channels, 2 bytes each, and the custom penalty.
 //!
+//! `r`, a run of channels: the same, where the sum is that of the run's channels. Then 10 bytes, 2 each:
+//! the number of readings of all channels; the place of the lent area from which on the differences
+//! stand and the area's size; how many places of it are +0 afterwards, which is 0 where it has no room
+//! for them and every noise variance is NaN; the number of segments. Then 8 bytes for each reading, 8
+//! for the noise variance of each channel, and 20 for each segment: start and end, 2 bytes each, its L2
+//! cost and its Normal cost over the channels, which are NaN where the channels have no such segment.
+//!
 //! `e` ends the cases.
 
 #[allow(dead_code)]
 mod inputs;
 #[allow(dead_code)]
 mod rules;
+mod runs;
 #[allow(dead_code)]
 mod series;
 
 use inputs::Random;
+use pelt_opened::{CostFunction, Penalty};
+use runs::Run;
 use series::SERIES_KINDS;
 use std::io::{self, BufWriter, Write};
 
@@ -42,6 +52,12 @@ const PIECE: u8 = 12;
 
 fn write_values(out: &mut impl Write, values: &[f64]) -> io::Result<()> {
     let mut patterns = values.iter().map(|&x| rules::pattern(x).to_be_bytes());
+    patterns.try_for_each(|p| out.write_all(&p))
+}
+
+/// NaNs as they are.
+fn write_readings(out: &mut impl Write, readings: &[f64]) -> io::Result<()> {
+    let mut patterns = readings.iter().map(|x| x.to_bits().to_be_bytes());
     patterns.try_for_each(|p| out.write_all(&p))
 }
 
@@ -74,8 +90,7 @@ fn write_piece(out: &mut impl Write, readings: &[f64], start: usize, end: usize)
     out.write_all(b"s")?;
     write_values(out, &values)?;
     write_short(out, readings.len())?;
-    let mut patterns = readings.iter().map(|x| x.to_bits().to_be_bytes());
-    patterns.try_for_each(|p| out.write_all(&p))?;
+    write_readings(out, readings)?;
     out.write_all(&[if accepted { 0 } else { PIECE }])?;
     write_short(out, start)?;
     write_short(out, end)?;
@@ -109,19 +124,34 @@ fn write_pieces(out: &mut impl Write, random: &mut Random) -> io::Result<usize> 
     Ok(pieces + 1)
 }
 
+/// The penalties by BIC for L2 and for Normal, with this logarithm of n.
+fn bic(logarithm: f64, channels: usize, noise: f64) -> [f64; 2] {
+    [1.0 * logarithm * noise, 2.0 * logarithm * channels as f64]
+}
+
+fn write_penalty(
+    out: &mut impl Write,
+    letter: u8,
+    value: f64,
+    noise: f64,
+    n: usize,
+    channels: usize,
+) -> io::Result<()> {
+    let [l2, normal] = bic(rules::ln(n as f64), channels, noise);
+    out.write_all(&[letter])?;
+    write_values(out, &[value, noise, l2, normal])?;
+    write_short(out, n)?;
+    write_short(out, channels)?;
+    write_values(out, &[value * channels as f64])
+}
+
 fn write_penalties(out: &mut impl Write, random: &mut Random) -> io::Result<usize> {
     let mut penalties = 0;
     for n in [0, 1, 2, 3, 4, 100, 1000, 4095, 4096] {
         for channels in 0..=8 {
             for noise in [0.0, 1.5, 1e300, f64::INFINITY, f64::NAN] {
                 let value = f64::from_bits(random.next());
-                let (logarithm, count) = (rules::ln(n as f64), channels as f64);
-                out.write_all(b"q")?;
-                let bic = [1.0 * logarithm * noise, 2.0 * logarithm * count];
-                write_values(out, &[value, noise, bic[0], bic[1]])?;
-                write_short(out, n)?;
-                write_short(out, channels)?;
-                write_values(out, &[value * count])?;
+                write_penalty(out, b'q', value, noise, n, channels)?;
                 penalties += 1;
             }
         }
@@ -129,12 +159,86 @@ fn write_penalties(out: &mut impl Write, random: &mut Random) -> io::Result<usiz
     Ok(penalties)
 }
 
+/// What is stored of a run's penalties is the Rust's own `resolve_penalty` but for the logarithm: with
+/// the platform's in its place the values are the same.
+fn assert_penalties(run: &Run, value: f64) {
+    let (signals, n) = (run.signals(), run.length());
+    let noise = pelt_opened::opened_noise_sum(&signals);
+    let [l2, normal] = bic((n as f64).ln(), signals.len(), noise);
+    let custom = value * signals.len() as f64;
+    let own = |cost, penalty| pelt_opened::opened_penalty(cost, penalty, n, &signals);
+    let rust = [
+        own(CostFunction::L2, Penalty::Bic),
+        own(CostFunction::Normal, Penalty::Bic),
+        own(CostFunction::L2, Penalty::Custom(value)),
+        own(CostFunction::Normal, Penalty::Custom(value)),
+    ];
+    let stored = [l2, normal, custom, custom];
+    assert_eq!(rust.map(rules::pattern), stored.map(rules::pattern));
+}
+
+/// The L2 cost and the Normal cost of a segment over the channels.
+fn costs_of(signals: &[&[f64]], start: usize, end: usize) -> [f64; 2] {
+    if start >= end || end > signals[0].len() {
+        return [f64::NAN; 2];
+    }
+    let length = (end - start) as f64;
+    let normal = |s: &&[f64]| normal_cost(pelt_opened::opened_l2(s, start, end), length);
+    let l2 = pelt_opened::opened_l2_of(signals, start, end);
+    [l2, signals.iter().map(normal).sum()]
+}
+
+/// One that no search refuses.
+fn custom_value(random: &mut Random) -> f64 {
+    let accepted = |value: &f64| value.is_finite() && *value > 0.0;
+    let mut values = std::iter::repeat_with(|| f64::from_bits(random.next()));
+    values.find(accepted).expect("a value")
+}
+
+fn write_run(out: &mut impl Write, random: &mut Random, run: &Run) -> io::Result<()> {
+    let signals = run.signals();
+    let value = custom_value(random);
+    assert_penalties(run, value);
+    let room = run.cleared().is_some();
+    let in_room = |noise: f64| if room { noise } else { f64::NAN };
+    let sum = in_room(pelt_opened::opened_noise_sum(&signals));
+    write_penalty(out, b'r', value, sum, run.length(), signals.len())?;
+    write_short(out, signals.len() * run.length())?;
+    write_short(out, run.place)?;
+    write_short(out, run.size)?;
+    write_short(out, run.cleared().unwrap_or(0))?;
+    write_short(out, run.segments.len())?;
+    write_readings(out, &signals.concat())?;
+    for signal in &signals {
+        write_values(out, &[in_room(pelt_opened::opened_noise(signal))])?;
+    }
+    for &(start, end) in &run.segments {
+        write_short(out, start)?;
+        write_short(out, end)?;
+        write_values(out, &costs_of(&signals, start, end))?;
+    }
+    Ok(())
+}
+
+fn write_runs(out: &mut impl Write, random: &mut Random) -> io::Result<Vec<Run>> {
+    let runs = runs::runs(random);
+    for run in &runs {
+        write_run(out, random, run)?;
+    }
+    Ok(runs)
+}
+
 fn main() -> io::Result<()> {
     let mut out = BufWriter::new(io::stdout().lock());
     let mut random = Random::new();
     let pieces = write_pieces(&mut out, &mut random)?;
     let penalties = write_penalties(&mut out, &mut random)?;
+    let runs = write_runs(&mut out, &mut random)?;
     out.write_all(&[&b"e"[..], &[0; 32]].concat())?;
+    let channels: usize = runs.iter().map(|run| run.channels.len()).sum();
+    let segments: usize = runs.iter().map(|run| run.segments.len()).sum();
+    let runs = runs.len();
     eprintln!("{pieces} pieces, {penalties} penalties");
+    eprintln!("{runs} runs, {channels} channels, {segments} segments");
     out.flush()
 }

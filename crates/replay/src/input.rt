@@ -94,7 +94,7 @@ pub fn next_header() -> Header {
 }
 
 // The next readings, so many of them.
-fn next_readings(count: usize) -> Series
+pub fn next_readings(count: usize) -> Series
     requires { ⌜ count ≤ 4096 ⌝ }
     ensures { λ r. ⌜ Front (r .count) (r .readings) ⌝ }
 {

@@ -8,7 +8,8 @@ pub struct Tally {
 }
 
 // What is counted: the answers for a series, its records and its indices, the lent places that a call
-// has to leave alone, run lengths, and answers at a limit that no stored case has.
+// has to leave alone, run lengths, answers at a limit that no stored case has, noise variances and sums
+// of them, and costs.
 pub enum What {
     Series,
     Record,
@@ -16,6 +17,9 @@ pub enum What {
     Kept,
     RunLength,
     Limit,
+    Noise,
+    NoiseSum,
+    Cost,
 }
 
 pub struct Progress {
@@ -25,6 +29,9 @@ pub struct Progress {
     pub kept: Tally,
     pub run_lengths: Tally,
     pub limits: Tally,
+    pub noises: Tally,
+    pub noise_sums: Tally,
+    pub costs: Tally,
     // How many cases were begun.
     pub begun: u64,
     // How many differences may still be shown.
@@ -89,6 +96,9 @@ impl Progress {
             kept: none,
             run_lengths: none,
             limits: none,
+            noises: none,
+            noise_sums: none,
+            costs: none,
             begun: 0,
             lines: 20,
             same: true,
@@ -145,12 +155,15 @@ impl Progress {
             What::Kept => self.kept = self.kept.counted(self.same),
             What::RunLength => self.run_lengths = self.run_lengths.counted(self.same),
             What::Limit => self.limits = self.limits.counted(self.same),
+            What::Noise => self.noises = self.noises.counted(self.same),
+            What::NoiseSum => self.noise_sums = self.noise_sums.counted(self.same),
+            What::Cost => self.costs = self.costs.counted(self.same),
         }
         self.same = true;
         self
     }
 
-    // Prints what was found, but for run lengths.
+    // Prints what was found of a chart, but for run lengths.
     pub fn report(self) {
         let series = self.series;
         let records = self.records;

@@ -1,15 +1,9 @@
 -- `replay_sums::replay_all` is safe and ends: the loop's test keeps the count of its turns below the largest number. Assumes nothing.
 use Prim.Native.Nat.{_-_, _^_}
+use native.Mathlib.Omega.{arith}
 use borrow.Author.Needs.{needs}
 use Rattle.replay_sums.proofs.replay_all.Statement.{statement}
 use Rattle.replay_sums.proofs.replay_all.Tie as tie
-use Rattle.replay_sums.proofs.replay_all.Reads as reads
-use Rattle.replay_sums.proofs.replay_all.Lts as lts
-use Rattle.replay.proofs.next_block.Reads as next-block-reads
-use Rattle.replay.proofs.progress.Progress.begun.Reads as begun-reads
-use Rattle.replay.proofs.progress.Progress.new.Reads as new-reads
-use Rattle.replay.proofs.progress.Progress.stopped.Reads as stopped-reads
-use Rattle.replay_sums.proofs.replay_case.Reads as replay-case-reads
 
 abbrev Inv-loop : tie.InvT-loop
 Inv-loop progress₀ turn₀ progress turn = Unit {0}
@@ -54,10 +48,10 @@ returns-3 : tie.Need-returns-3 Inv-loop μ-loop
 returns-3 c = search needs
 
 add-turn : tie.Need-add-turn Inv-loop μ-loop
-add-turn c = search needs
+add-turn c = search (needs, c .before .before .before .before .before .before .before .before .before .before .loop-test .taken)
 
 loop-less : tie.Need-loop-less Inv-loop μ-loop
-loop-less c = search needs
+loop-less c = omega (arith, c .before .before .before .before .before .before .before .before .before .before .loop-test .taken)
 
 loop-again : tie.Need-loop-again Inv-loop μ-loop
 loop-again c = search needs

@@ -1,0 +1,26 @@
+-- `replay_sums::variances::lend_for_sum` is safe: what it lends is within its 4,104 places. Assumes nothing.
+use mathlib.Core.Path.{sym}
+use lib.Seq.{length-take-le}
+use borrow.Author.Needs.{needs}
+use Rattle.replay_sums.proofs.variances.lend_for_sum.Statement.{statement}
+use Rattle.replay_sums.proofs.variances.lend_for_sum.Tie as tie
+
+unused-requires : tie.Need-unused-requires
+unused-requires c κs = search needs
+
+array-borrow-prefix-area : tie.Need-array-borrow-prefix-area
+array-borrow-prefix-area c = search needs
+
+slice-aggregate-match-sum-and-penalties : tie.Need-slice-aggregate-match-sum-and-penalties
+slice-aggregate-match-sum-and-penalties c = sym (length-take-le (c .before .before .before .args .room .size) _ (c .before .before .before .pre))
+
+match-sum-and-penalties-requires : tie.Need-match-sum-and-penalties-requires
+match-sum-and-penalties-requires c κs = search needs
+
+returns : tie.Need-returns
+returns c = search needs
+
+pub lend-for-sum-spec : {M : Type 1} → statement M
+lend-for-sum-spec =
+    tie.close
+    (tie.spec unused-requires array-borrow-prefix-area slice-aggregate-match-sum-and-penalties match-sum-and-penalties-requires returns)

@@ -1,0 +1,65 @@
+// Comparing the costs of segments, added over the channels of a run, with the stored ones.
+use costs::CostFunction;
+use costs::cost_of;
+use floats::to_bits;
+use replay::Progress;
+use replay::What;
+use replay::next_block;
+use replay::number;
+
+// Compares the costs of the segment that the input has next.
+fn match_segment(
+    progress: Progress,
+    sums: &[f64; 8208],
+    n: usize,
+    channels: usize,
+    index: usize,
+) -> Progress {
+    let block = next_block(20);
+    let bytes = block.bytes;
+    if !block.whole {
+        return progress.stopped();
+    }
+    let start = number(&bytes, 0, 2) as usize;
+    let end = number(&bytes, 2, 2) as usize;
+    let l2 = cost_of(CostFunction::L2, sums, n, channels, start, end);
+    let normal = cost_of(CostFunction::Normal, sums, n, channels, start, end);
+    let first = progress.matched(b"L2 cost", index, number(&bytes, 4, 8), to_bits(l2));
+    let second = first.matched(
+        b"Normal cost",
+        index,
+        number(&bytes, 12, 8),
+        to_bits(normal),
+    );
+    second.counted(What::Cost)
+}
+
+// Cost: one turn for each segment.
+fn match_each(
+    mut progress: Progress,
+    sums: &[f64; 8208],
+    n: usize,
+    channels: usize,
+    segments: usize,
+) -> Progress {
+    let mut i = 0;
+    while i < segments {
+        progress = match_segment(progress, sums, n, channels, i);
+        i += 1;
+    }
+    progress
+}
+
+// The segments of a run, so many of them. The area has room for the sums of any 8 channels with 4,096
+// readings in all.
+pub(crate) fn match_segments(
+    progress: Progress,
+    run: &[f64],
+    n: usize,
+    channels: usize,
+    segments: usize,
+) -> Progress {
+    let mut area = [0.0; 8208];
+    sums::channel_sums(run, n, channels, &mut area);
+    match_each(progress, &area, n, channels, segments)
+}
