@@ -9,8 +9,7 @@ use lib.Ieee.{Float, nan}
 use Rattle.floats.specs.Numbers.{_+ᶠ_, _-ᶠ_}
 use Rattle.candidate.specs.declared.Candidate.{Candidate}
 use Rattle.candidate.specs.declared.Ball.{Ball}
-use Rattle.candidate.specs.declared.boxes.Span.{Span}
-use Rattle.candidate.specs.Boxes.{at, ballOf, spanAt, withSpan, overChannels, alongEach, gap2, narrowed, missed, nothing, restrict}
+use Rattle.candidate.specs.Boxes.{Span, at, ballOf, spanAt, withSpan, overChannels, alongEach, gap2, narrowed, missed, nothing, restrict}
 
 -- a change along the first channel leaves what stands along the second
 pub span-beside : (s : Span) (x : Candidate) → spanAt (withSpan 0 s x) 1 ≡ spanAt x 1

@@ -1,21 +1,19 @@
 -- Laws of cutting: what each way through it comes to, and one ball more. Assumes nothing.
-use Prim.Native.Nat.{ℕ, zero, suc, _+_, _-_, _≤_}
-use mathlib.Core.Bool.{Bool, true, false, _||_, cond, true≢false}
+use Prim.Native.Nat.{ℕ, zero, suc, _+_, _-_, _≤_, _<_}
+use mathlib.Core.Bool.{true, false}
 use mathlib.Core.Path.{_≡_, refl, sym, ap, _∙_}
 use mathlib.Core.List.{List}
 use native.Mathlib.Omega.{arith}
 use native.Mathlib.Nat.{add-zero, add-suc}
 use native.Mathlib.Numerals.{add-one}
-use lib.Seq.{set-getD}
-use lib.Ieee.{Float, nan}
+use lib.Ieee.{Float}
 use Rattle.floats.specs.Numbers.{_+ᶠ_, _-ᶠ_}
-use Rattle.floats.specs.Finite.{finite}
+use Rattle.readings.proofs.PartLaws.{tab-at}
 use Rattle.candidate.specs.declared.Candidate.{Candidate}
 use Rattle.candidate.specs.declared.Ball.{Ball}
-use Rattle.candidate.specs.declared.boxes.Span.{Span}
-use Rattle.candidate.specs.Boxes.{ballOf, spanAt, withSpan, overChannels, alongEach, gone}
-use Rattle.candidate.specs.Balls.{ballAt}
-use Rattle.candidate.specs.Cuts.{far2, inside, moved, cutEnds, cutSpan, cutBy, cutByRoot, cutTo}
+use Rattle.candidate.specs.Boxes.{Span, ballOf, spanAt, withSpan, overChannels, alongEach, gone}
+use Rattle.candidate.specs.Balls.{ballAt, heldAt, held}
+use Rattle.candidate.specs.Cuts.{far2, cutSpan, cutBy, cutByRoot, cutRooted, cutTo}
 use Rattle.candidate.proofs.BoxLaws.{span-beside}
 
 -- ---- one ball on two channels
@@ -28,37 +26,15 @@ cut-two c d r2 x {s} {u} {t} {v} {g} {h} es eu eg eh et ey ev q = q ∙ (rw (ev,
     beside = span-beside (cutSpan s c r2 (g +ᶠ h -ᶠ g)) x ∙ sym eu
 
 -- ---- one ball on one channel, by its root
-pub span-same : (k : ℕ) (x : Candidate) → x ≡ withSpan k (spanAt x k) x
-unfolding withSpan spanAt
-span-same k x = rw (set-getD (x .lo) k nan, set-getD (x .hi) k nan) refl
-
-pub ends-outside : (s : Span) (c w : Float) → inside c w (s .lo) ≡ false → inside c w (s .hi) ≡ false → cutEnds s c w ≡ s
-unfolding cutEnds moved
-ends-outside s c w p q = rw (p, q) refl
-
-module _ (c w : Float) (x : Candidate) {s : Span} (es : s ≡ spanAt x 0) where
-  pub root-hit : {f : Float} {t : Span} {r : Candidate} → f ≡ far2 s c → finite f ≡ true → t ≡ cutEnds s c w → r ≡ withSpan 0 t x → r ≡ cutByRoot c w x
-  unfolding cutByRoot
-  root-hit ef e et q = q ∙ (rw (et, ← es, ← ef, e) refl)
-
-  pub root-far : {f : Float} → f ≡ far2 s c → finite f ≡ false → x ≡ cutByRoot c w x
-  unfolding cutByRoot
-  root-far ef e = rw (← es, ← ef, e) refl
-
-  pub root-outside : (inside c w (s .lo) || inside c w (s .hi)) ≡ false → x ≡ cutByRoot c w x
-  unfolding cutByRoot
-  root-outside e = rw (← es) (side (finite (far2 s c)))
-    where
-      neither : (a b : Bool) → (a || b) ≡ false → (a ≡ false) × (b ≡ false)
-      neither false false r = (refl, refl)
-      neither false true r = absurd (true≢false r)
-      neither true b r = absurd (true≢false r)
-
-      side : (t : Bool) → x ≡ cond t (withSpan 0 (cutEnds s c w) x) x
-      side true = let n = neither _ _ e in rw (ends-outside s c w (n .0) (n .1), es) (span-same 0 x)
-      side false = refl
+pub cut-along : (c w r2 : Float) (x : Candidate) {y : Candidate} {s t : Span} → s ≡ spanAt x 0 → t ≡ cutByRoot s c w → y ≡ withSpan 0 t x → y ≡ cutRooted (ballOf c w r2) x
+unfolding cutRooted
+cut-along c w r2 x es et q = q ∙ (rw (et, es) refl)
 
 -- ---- one ball more
+pub ball-read : (area : List Float) (place n i : ℕ) → i < n → heldAt area place i ≡ ballAt (held area place n) i
+unfolding held
+ball-read area place n i h = sym (tab-at (heldAt area place) n i _ h)
+
 module _ (cut : Ball → Candidate → Candidate) (bs : List Ball) (x : Candidate) where
   pub cut-more : (i : ℕ) {y r : Candidate} {b : Ball} → y ≡ cutTo cut bs x i → gone (spanAt y 0) ≡ false → b ≡ ballAt bs i → r ≡ cut b y → r ≡ cutTo cut bs x (i + 1)
   unfolding cutTo

@@ -2,14 +2,14 @@
 use mathlib.Core.Bool.{true, false}
 use mathlib.Core.Path.{_≡_, refl}
 use mathlib.Core.List.{[], _∷_}
-use lib.Ieee.{Float, nan, neg, add, sub, mul, lt, le, eq, ne, ofInt}
+use lib.Ieee.{Float, nan, neg, add, sub, mul, lt, le, eq, ne, isNan, ofInt}
 use Rattle.floats.specs.Numbers.{+0, +∞, -∞, whole}
 use Rattle.floats.specs.MaxMin.{max, min}
 use Rattle.elementary.specs.Root.{sqrt, nearRoot, wholeRoot, rootFrom}
 use Rattle.candidate.specs.declared.Candidate.{Candidate}
 use Rattle.candidate.specs.Boxes.{ballOf, overChannels, alongEach, spanAt, withSpan, gap2, narrowed, missed, nothing, restrict, isDominated}
 use Rattle.candidate.specs.Balls.{ahead, narrowestTo, loseInside}
-use Rattle.candidate.specs.Cuts.{far2, inside, moved, cutEnds, cutSpan, cutBy, cutTo, cutLosing, cutByRoot}
+use Rattle.candidate.specs.Cuts.{far2, inside, moved, cutEnds, cutSpan, cutBy, cutTo, cutLosing}
 
 abbrev boxOf : Float → Float → Float → Float → Candidate
 boxOf a b c d = record { lo = a ∷ c ∷ []; hi = b ∷ d ∷ [] }
@@ -59,7 +59,7 @@ a-point-is-left = refl
 
 -- of the radii NaN, 3, 2, NaN, 2 the third is the narrowest; an empty ball is not kept, one that is no number is
 pub narrowest-third : narrowestTo (ballOf +0 +0 nan ∷ ballOf +0 +0 (whole 3) ∷ ballOf +0 +0 (whole 2) ∷ ballOf +0 +0 nan ∷ ballOf +0 +0 (whole 2) ∷ []) 4 ≡ 2
-unfolding narrowestTo ahead lt eq ne ofInt
+unfolding narrowestTo ahead isNan lt ofInt
 narrowest-third = refl
 
 pub empty-not-kept : loseInside (ballOf +0 +0 +0) [] ≡ []
@@ -70,14 +70,10 @@ pub nan-kept : loseInside (ballOf +0 +0 nan) [] ≡ ballOf +0 +0 nan ∷ []
 unfolding loseInside le lt eq
 nan-kept = refl
 
--- about 1 with a radius of 2, on one channel, and by its root; about 0 and 4 with a radius of √41, which reaches 5 past the second channel's 4
+-- about 1 with a radius of 2, on one channel; about 0 and 4 with a radius of √41, which reaches 5 past the second channel's 4
 pub cut-one : cutLosing 1 (ballOf (whole 1) +0 (whole 4) ∷ []) wide ≡ boxOf (whole 3) (whole 10) +0 (whole 8)
 unfolding cutLosing cutTo cutBy overChannels alongEach spanAt withSpan far2 cutSpan cutEnds moved inside max sqrt nearRoot wholeRoot rootFrom add sub mul lt eq ne le ofInt
 cut-one = refl
-
-pub cut-by-root : cutByRoot (whole 1) (whole 2) wide ≡ boxOf (whole 3) (whole 10) +0 (whole 8)
-unfolding cutByRoot cutLosing cutTo cutBy overChannels alongEach spanAt withSpan far2 cutSpan cutEnds moved inside max sqrt nearRoot wholeRoot rootFrom add sub mul lt eq ne le ofInt
-cut-by-root = refl
 
 pub cut-two : cutLosing 2 (ballOf +0 (whole 4) (whole 41) ∷ []) wide ≡ boxOf (whole 5) (whole 10) +0 (whole 8)
 unfolding cutLosing cutTo cutBy overChannels alongEach spanAt withSpan far2 cutSpan cutEnds moved inside max sqrt nearRoot wholeRoot rootFrom add sub mul lt eq ne le ofInt

@@ -14,15 +14,14 @@ use lib.Ieee.Fits.{down-pos}
 use Rattle.floats.specs.Numbers.{_-ᶠ_, _<ᶠ_, +0}
 use Rattle.floats.specs.Finite.{finite}
 use Rattle.elementary.specs.Root.{sqrt}
+use Rattle.spans.proofs.SlabLaws.{ends-outside}
 use Rattle.readings.specs.Parts.{tab}
 use Rattle.readings.proofs.PartLaws.{tab-length, tab-at}
 use Rattle.candidate.specs.declared.Candidate.{Candidate}
 use Rattle.candidate.specs.declared.Ball.{Ball}
-use Rattle.candidate.specs.declared.boxes.Span.{Span}
-use Rattle.candidate.specs.Boxes.{at, spanAt, withSpan, overChannels, alongEach}
+use Rattle.candidate.specs.Boxes.{Span, at, spanAt, withSpan, overChannels, alongEach}
 use Rattle.candidate.specs.Balls.{ballAt, heldAt, held, meant, ballsAt, Rooted, hasRoom}
 use Rattle.candidate.specs.Cuts.{far2, inside, cutEnds, cutSpan, cutBy, cutTo, cutLosing, cutByRoot, cutRooted, cutIn}
-use Rattle.candidate.proofs.CutLaws.{span-same, ends-outside}
 
 -- ---- a finite number less itself is +0
 above-nothing : (u : ℕ) → 0 < u → compare 0 u ≡ Ordering·lt
@@ -78,21 +77,18 @@ cut-whole : (s : Span) (c r2 w : Float) → (r2 <ᶠ +0) ≡ false → w ≡ sqr
 unfolding cutSpan
 cut-whole s c r2 w e q = rw (e, ← q) refl
 
-root-is : (b : Ball) (x : Candidate) → Rooted b → cutRooted b x ≡ withSpan 0 (cutSpan (spanAt x 0) (at (b .centre) 0) (b .r2) (far2 (spanAt x 0) (at (b .centre) 0) -ᶠ far2 (spanAt x 0) (at (b .centre) 0))) x
-unfolding cutRooted cutByRoot
-root-is b x r = side (far2 (spanAt x 0) (at (b .centre) 0))
+root-is : (s : Span) (c r2 w : Float) → (r2 <ᶠ +0) ≡ false → w ≡ sqrt (r2 -ᶠ +0) → cutByRoot s c w ≡ cutSpan s c r2 (far2 s c -ᶠ far2 s c)
+unfolding cutByRoot
+root-is s c r2 w e q = side (far2 s c)
   where
-    kept : (s : Span) (c : Float) → cutEnds s c (at (b .centre) 1) ≡ cutSpan s c (b .r2) +0
-    kept s c = sym (cut-whole s c (b .r2) (at (b .centre) 1) (r .above) (r .root))
-
-    side : (f : Float) → cond (finite f) (withSpan 0 (cutEnds (spanAt x 0) (at (b .centre) 0) (at (b .centre) 1)) x) x ≡ withSpan 0 (cutSpan (spanAt x 0) (at (b .centre) 0) (b .r2) (f -ᶠ f)) x
-    side nan = span-same 0 x ∙ ap (λ (s : Span). withSpan 0 s x) (sym (cut-nan (spanAt x 0) (at (b .centre) 0) (b .r2) (nan -ᶠ nan) (less-nan nan)))
-    side (inf s) = span-same 0 x ∙ ap (λ (s : Span). withSpan 0 s x) (sym (cut-nan (spanAt x 0) (at (b .centre) 0) (b .r2) (inf s -ᶠ inf s) (less-infinity s)))
-    side (fin s m e) = ap (λ (t : Span). withSpan 0 t x) (kept (spanAt x 0) (at (b .centre) 0) ∙ ap (cutSpan (spanAt x 0) (at (b .centre) 0) (b .r2)) (sym (less-itself (fin s m e) refl)))
+    side : (f : Float) → cond (finite f) (cutEnds s c w) s ≡ cutSpan s c r2 (f -ᶠ f)
+    side nan = sym (cut-nan s c r2 (nan -ᶠ nan) (less-nan nan))
+    side (inf t) = sym (cut-nan s c r2 (inf t -ᶠ inf t) (less-infinity t))
+    side (fin t m k) = sym (cut-whole s c r2 w e q) ∙ ap (cutSpan s c r2) (sym (less-itself (fin t m k) refl))
 
 pub cut-one-is : (b : Ball) (x : Candidate) → Rooted b → cutRooted b x ≡ cutBy 1 (meant 1 b) x
-unfolding cutBy overChannels alongEach meant
-cut-one-is b x r = root-is b x r
+unfolding cutRooted cutBy overChannels alongEach meant
+cut-one-is b x r = ap (λ (s : Span). withSpan 0 s x) (root-is (spanAt x 0) (at (b .centre) 0) (b .r2) (at (b .centre) 1) (r .above) (r .root))
 
 pub cut-two-is : (channels : ℕ) (b : Ball) (x : Candidate) → (channels ≡ 1 → ⊥) → cutBy 2 b x ≡ cutBy channels (meant channels b) x
 unfolding cutBy overChannels alongEach meant

@@ -1,29 +1,25 @@
 -- The balls in which a candidate loses: which of them it keeps, and how they stand in an area. Definitions only.
-use Prim.Native.Nat.{ℕ, zero, suc, _+_, _<_}
-use mathlib.Core.Bool.{Bool, false, _&&_, _||_, cond}
+use Prim.Native.Nat.{ℕ, zero, suc, _+_}
+use mathlib.Core.Bool.{false, cond}
 use mathlib.Core.Path.{_≡_}
 use mathlib.Core.List.{List, [], _∷_, _++_}
-use lib.Dec.{eqb, ltb, leb}
+use lib.Dec.{eqb, ltb}
 use lib.ListN.{length, getD, set}
-use lib.Ieee.{Float, nan, eq, ne}
+use lib.Ieee.{Float, nan}
 use Rattle.floats.specs.Numbers.{_-ᶠ_, _<ᶠ_, _≤ᶠ_, +0}
 use Rattle.elementary.specs.Root.{sqrt}
 use Rattle.readings.specs.Parts.{tab}
 use Rattle.candidate.specs.declared.Ball.{Ball}
 use Rattle.candidate.specs.Boxes.{at, ballOf}
+-- the order of radii; how many balls a candidate keeps; the room for them in an area, and what one more ball does there
+unfoldable pub use Rattle.floats.specs.Ahead.{ahead}
+pub use Rattle.losing.specs.Losing.{losingBalls}
+unfoldable pub use Rattle.losing.specs.Losing.{hasRoom, secondNumber, areaWith, countWith}
 
 -- ---- the list of balls
 
--- how many a candidate keeps
-abbrev pub losingBalls : ℕ
-losingBalls = 64
-
 abbrev pub ballAt : List Ball → ℕ → Ball
 ballAt bs i = getD bs i (record { centre = []; r2 = +0 })
-
--- y stands before x in order: it is less, or x alone is NaN
-unfoldable pub ahead : Float → Float → Bool
-ahead y x = y <ᶠ x || (ne x x && eq y y)
 
 -- the place of the narrowest of the first i + 1 balls, the earliest on a tie
 unfoldable pub narrowestTo : List Ball → ℕ → ℕ
@@ -46,18 +42,6 @@ heldAt area place i = ballOf (getD area (place + i) nan) (getD area (place + 64 
 unfoldable pub held : List Float → ℕ → ℕ → List Ball
 held area place count = tab (heldAt area place) count
 
-unfoldable pub putBall : List Float → ℕ → ℕ → Ball → List Float
-putBall area place i b =
-    set (set (set area (place + i) (at (b .centre) 0)) (place + 64 + i) (at (b .centre) 1)) (place + 128 + i) (b .r2)
-
--- what stands for the second number of a ball's centre, d: on one channel the root that cutting takes, of r2 less a rest of +0
-unfoldable pub secondNumber : ℕ → Float → Float → Float
-secondNumber channels d r2 = cond (eqb channels 1) (sqrt (r2 -ᶠ +0)) d
-
--- a ball as the area holds it
-unfoldable pub kept : ℕ → Ball → Ball
-kept channels b = ballOf (at (b .centre) 0) (secondNumber channels (at (b .centre) 1) (b .r2)) (b .r2)
-
 -- a ball of the area as it is meant: on one channel the second number is +0
 unfoldable pub meant : ℕ → Ball → Ball
 meant channels b = ballOf (at (b .centre) 0) (cond (eqb channels 1) +0 (at (b .centre) 1)) (b .r2)
@@ -71,26 +55,7 @@ pub record Rooted (b : Ball) : Type 0 where
   pub root : at (b .centre) 1 ≡ sqrt (b .r2 -ᶠ +0)
   pub above : (b .r2 <ᶠ +0) ≡ false
 
--- an area of so many places has the three runs from a place on, and count is one of balls
-unfoldable pub hasRoom : ℕ → ℕ → ℕ → Bool
-hasRoom size place count = leb count losingBalls && leb (place + 192) size
-
--- ---- `lose_inside` in an area, for a ball as the area holds it
-
--- one more ball for 64
-unfoldable pub displaced : List Float → ℕ → Ball → List Float
-displaced area place b =
-    let i = narrowestTo (held area place 64) 63 in
-    cond (b .r2 ≤ᶠ heldAt area place i .r2) area (putBall (putBall area place i (heldAt area place 63)) place 63 b)
-
--- the area, and the number of balls, once the ball is among them
-unfoldable pub areaWith : List Float → ℕ → ℕ → Ball → List Float
-areaWith area place count b = cond (b .r2 ≤ᶠ +0) area (cond (ltb count losingBalls) (putBall area place count b) (displaced area place b))
-
-unfoldable pub countWith : ℕ → Float → ℕ
-countWith count r2 = cond (r2 ≤ᶠ +0) count (cond (ltb count losingBalls) (count + 1) count)
-
--- what `lose_inside` leaves and says: that where there is room, and otherwise what was
+-- what `lose_inside` leaves and says: the area and the number of balls once the ball is among them, with what stands for the second number of its centre, where there is room; and otherwise what was
 pub record Lost (channels : ℕ) (before after : List Float) (place count : ℕ) (b : Ball) (r : ℕ) : Type 0 where
-  pub left : after ≡ cond (hasRoom (length before) place count) (areaWith before place count (kept channels b)) before
+  pub left : after ≡ cond (hasRoom (length before) place count) (areaWith before place count (at (b .centre) 0) (secondNumber channels (at (b .centre) 1) (b .r2)) (b .r2)) before
   pub said : r ≡ cond (hasRoom (length before) place count) (countWith count (b .r2)) count

@@ -6,11 +6,13 @@ use lib.Dec.{eqb}
 use lib.ListN.{getD, set}
 use lib.Ieee.{Float, nan}
 use Rattle.floats.specs.Numbers.{_+ᶠ_, _-ᶠ_, _*ᶠ_, _<ᶠ_, +0, +∞, -∞}
-use Rattle.floats.specs.MaxMin.{max, min}
-use Rattle.elementary.specs.Root.{sqrt}
+use Rattle.floats.specs.MaxMin.{max}
 use Rattle.candidate.specs.declared.Candidate.{Candidate}
 use Rattle.candidate.specs.declared.Ball.{Ball}
-use Rattle.candidate.specs.declared.boxes.Span.{Span}
+-- one side: a span, what a ball reaches of it, and whether anything is left of it
+pub use Rattle.spans.specs.declared.Span.{Span}
+pub use Rattle.spans.specs.Reach.{gone}
+unfoldable pub use Rattle.spans.specs.Reach.{narrowed}
 
 -- ---- the channels: any number of them but 1 counts as 2
 
@@ -45,10 +47,6 @@ alongEach channels step x =
 unfoldable pub gap2 : Span → Float → Float
 gap2 s c = let gap = max (max (s .lo -ᶠ c) (c -ᶠ s .hi)) +0 in gap *ᶠ gap
 
--- the part of a span that a ball reaches, where room is what the other channels leave of r2
-unfoldable pub narrowed : Span → Float → Float → Span
-narrowed s c room = let w = sqrt (max room +0) in record { lo = max (s .lo) (c -ᶠ w); hi = min (s .hi) (c +ᶠ w) }
-
 -- the ball is empty, or does not reach over the sum of the gaps
 unfoldable pub missed : Float → Float → Bool
 missed r2 total = r2 <ᶠ +0 || r2 <ᶠ total
@@ -65,10 +63,6 @@ restrict channels b x =
     (alongEach channels (λ k s. narrowed s (at (b .centre) k) (b .r2 -ᶠ (total -ᶠ gap2 s (at (b .centre) k)))) x)
 
 -- ---- `is_dominated`
-
--- nothing is left of a span
-abbrev pub gone : Span → Bool
-gone s = s .hi <ᶠ s .lo
 
 -- along one of the channels nothing is left
 unfoldable pub isDominated : ℕ → Candidate → Bool

@@ -1,41 +1,19 @@
 -- What the losing balls cut from the box. Definitions only.
 use Prim.Native.Nat.{ℕ, zero, suc}
-use mathlib.Core.Bool.{Bool, _&&_, cond}
+use mathlib.Core.Bool.{cond}
 use mathlib.Core.List.{List}
 use lib.Dec.{eqb}
 use lib.ListN.{length}
 use lib.Ieee.{Float}
-use Rattle.floats.specs.Numbers.{_+ᶠ_, _-ᶠ_, _*ᶠ_, _<ᶠ_, _≤ᶠ_}
-use Rattle.floats.specs.MaxMin.{max}
-use Rattle.floats.specs.Finite.{finite}
-use Rattle.elementary.specs.Root.{sqrt}
+use Rattle.floats.specs.Numbers.{_-ᶠ_}
 use Rattle.candidate.specs.declared.Candidate.{Candidate}
 use Rattle.candidate.specs.declared.Ball.{Ball}
-use Rattle.candidate.specs.declared.boxes.Span.{Span}
 use Rattle.candidate.specs.Boxes.{at, spanAt, withSpan, overChannels, alongEach, gone}
 use Rattle.candidate.specs.Balls.{ballAt, held, hasRoom}
+-- what a ball cuts from one side
+unfoldable pub use Rattle.spans.specs.Slabs.{far2, inside, moved, cutEnds, cutSpan, cutByRoot}
 
 -- ---- one ball
-
--- the square of the distance from c to the farther end of a span
-unfoldable pub far2 : Span → Float → Float
-far2 s c = let low = s .lo -ᶠ c in let high = s .hi -ᶠ c in max (low *ᶠ low) (high *ᶠ high)
-
--- v lies from c - w to c + w
-unfoldable pub inside : Float → Float → Float → Bool
-inside c w v = c -ᶠ w ≤ᶠ v && v ≤ᶠ c +ᶠ w
-
--- v, and another number in its place where it lies inside
-unfoldable pub moved : Float → Float → Float → Float → Float
-moved c w v to = cond (inside c w v) to v
-
--- a low end inside goes to c + w, and a high end inside to c - w
-unfoldable pub cutEnds : Span → Float → Float → Span
-cutEnds s c w = record { lo = moved c w (s .lo) (c +ᶠ w); hi = moved c w (s .hi) (c -ᶠ w) }
-
--- a span cut where the ball reaches past the rest, which is what the other channels have of far2
-unfoldable pub cutSpan : Span → Float → Float → Float → Span
-cutSpan s c r2 rest = cond (r2 <ᶠ rest) s (cutEnds s c (sqrt (r2 -ᶠ rest)))
 
 -- the box cut by one ball; the total is that of the box before
 unfoldable pub cutBy : ℕ → Ball → Candidate → Candidate
@@ -56,13 +34,9 @@ cutLosing channels bs x = cutTo (cutBy channels) bs x (length bs)
 
 -- ---- `cut_losing` by the balls of an area, on one channel with the roots that it holds
 
--- on one channel the rest is 0 where far2 is finite, and otherwise no number, and nothing is cut
-unfoldable pub cutByRoot : Float → Float → Candidate → Candidate
-cutByRoot c w x = let s = spanAt x 0 in cond (finite (far2 s c)) (withSpan 0 (cutEnds s c w) x) x
-
--- the second number of a ball in the area is its root
+-- by a ball of the area on one channel, whose second number is its root
 unfoldable pub cutRooted : Ball → Candidate → Candidate
-cutRooted b x = cutByRoot (at (b .centre) 0) (at (b .centre) 1) x
+cutRooted b x = withSpan 0 (cutByRoot (spanAt x 0) (at (b .centre) 0) (at (b .centre) 1)) x
 
 -- by the balls from a place on; the box as it is where there is no room for them
 unfoldable pub cutIn : ℕ → List Float → ℕ → ℕ → Candidate → Candidate

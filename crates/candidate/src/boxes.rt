@@ -1,18 +1,11 @@
 // The box, and the ball that narrows it.
 ghost use mathlib.Core.Path.{_≡_};
-ghost use Rattle.candidate.specs.Boxes.{gap2, narrowed, missed, nothing, spanAt, withSpan, ballOf, restrict, isDominated};
+ghost use Rattle.candidate.specs.Boxes.{gap2, nothing, spanAt, withSpan, ballOf, restrict, isDominated};
 use crate::Ball;
 use crate::Candidate;
-use crate::flags::either;
-use elementary::sqrt;
 use floats::max;
-use floats::min;
-
-// A side of the box, along one channel.
-pub struct Span {
-    pub lo: f64,
-    pub hi: f64,
-}
+use spans::Span;
+use spans::narrowed;
 
 // The square of the distance from c to the span.
 fn gap2(span: Span, c: f64) -> f64
@@ -22,24 +15,7 @@ fn gap2(span: Span, c: f64) -> f64
     gap * gap
 }
 
-// The part of the span that a ball reaches about c, where `room` is what the other channels leave of
-// the square of its radius.
-fn narrowed(span: Span, c: f64, room: f64) -> Span
-    ensures { λ r. ⌜ r ≡ narrowed span c room ⌝ }
-{
-    let w = sqrt(max(room, 0.0));
-    let lo = max(span.lo, c - w);
-    let hi = min(span.hi, c + w);
-    Span { lo, hi }
-}
-
-// Whether a ball is empty, or does not reach over the sum of the gaps.
-fn missed(r2: f64, total: f64) -> bool
-    ensures { λ r. ⌜ r ≡ missed r2 total ⌝ }
-{
-    either(r2 < 0.0, r2 < total)
-}
-
+// A span with nothing in it.
 fn nothing() -> Span
     ensures { λ r. ⌜ r ≡ nothing ⌝ }
 {
@@ -90,7 +66,7 @@ impl Candidate {
     {
         let x = first(self);
         let gap = gap2(x, c);
-        if missed(r2, gap) {
+        if (r2 < 0.0) | (r2 < gap) {
             return with_first(self, nothing());
         }
         with_first(self, narrowed(x, c, r2 - (gap - gap)))
@@ -104,7 +80,7 @@ impl Candidate {
         let gap = gap2(x, c);
         let gap_beside = gap2(y, d);
         let total = gap + gap_beside;
-        if missed(r2, total) {
+        if (r2 < 0.0) | (r2 < total) {
             return with_first(self, nothing());
         }
         let narrow = with_first(self, narrowed(x, c, r2 - (total - gap)));
@@ -132,6 +108,6 @@ impl Candidate {
         if channels == 1 {
             return first;
         }
-        either(first, self.hi[1] < self.lo[1])
+        first | (self.hi[1] < self.lo[1])
     }
 }

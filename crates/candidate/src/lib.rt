@@ -6,11 +6,11 @@
 // contract names: `specs/Boxes` for the box and the ball that narrows it, `specs/Balls` for the
 // losing balls and how they stand in an area, `specs/Cuts` for what they cut from the box. That in an
 // area this is what the definitions do to the list of balls which it stands for, is said in
-// `proofs/AreaLaws` and `proofs/RootLaws`.
+// `proofs/AreaLaws` and `proofs/RootLaws`. What concerns one side of the box stands in crate `spans`,
+// and the runs of the area in crate `losing`.
 mod balls;
 mod boxes;
 mod cuts;
-mod flags;
 
 pub use balls::lose_inside;
 
@@ -28,5 +28,5 @@ pub struct Ball {
 
 impl Candidate {
     // How many of the balls in which it loses a candidate keeps.
-    pub const LOSING_BALLS: usize = 64;
+    pub const LOSING_BALLS: usize = losing::LOSING_BALLS;
 }

@@ -1,3 +1,4 @@
 pub mod Numbers
 pub mod Finite
 pub mod MaxMin
+pub mod Ahead

@@ -9,7 +9,8 @@ use Rattle.floats.specs.MaxMin.{max, min}
 use Rattle.readings.specs.Parts.{part, tab}
 use Rattle.readings.specs.Channels.{hasChannel, channelOf}
 use Rattle.sums.specs.Extremes.{lowestTo, highestTo, rangeOf}
-use Rattle.noise.specs.Order.{ahead, insert, sorted}
+use Rattle.floats.specs.Ahead.{ahead}
+use Rattle.noise.specs.Order.{insert, sorted}
 use Rattle.noise.specs.Median.{differenceAt, differences, median}
 use Rattle.noise.specs.Noise.{spreadOf, floorOf, noise, noiseSumTo, hasRoom, cleared}
 

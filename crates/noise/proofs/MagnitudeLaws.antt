@@ -11,7 +11,7 @@ use lib.Ieee.Bits.{is-true, ofBits-toBits}
 use lib.Ieee.Fits.{down-pos, sub-fits}
 use lib.Ieee.Nearest.{div-same}
 use Rattle.floats.specs.Finite.{abs}
-use Rattle.noise.specs.Order.{ahead}
+use Rattle.floats.specs.Ahead.{ahead}
 use Rattle.noise.specs.Heaps.{magnitude}
 use Rattle.noise.proofs.OrderLaws.{holds, ahead-of-nan, ahead-of-number}
 

@@ -21,9 +21,6 @@ use Rattle.noise.proofs.SortLaws.{ordered-values}
 front-more : {A : Type 0} (xs : List A) (i : ℕ) (v : A) (ys : List A) → i < length xs → take i xs ≡ ys → take (i + 1) (set xs i v) ≡ ys ++ (v ∷ [])
 front-more xs i v ys h e = rw add-one (take-suc-set xs i v h ∙ ap (λ (l : List _). l ++ (v ∷ [])) e)
 
-pub cleared-more : (xs : List Float) (i : ℕ) (v : Float) → i < length xs → take i xs ≡ replicate i v → take (i + 1) (set xs i v) ≡ replicate (i + 1) v
-cleared-more xs i v h e = front-more xs i v (replicate i v) h e ∙ replicate-append-replicate i 1 v
-
 pub differences-more : (channel xs : List Float) (i : ℕ) (v : Float) → i < length xs → v ≡ differenceAt channel i → take i xs ≡ tab (differenceAt channel) i
     → take (i + 1) (set xs i v) ≡ tab (differenceAt channel) (i + 1)
 differences-more channel xs i v h d e = front-more xs i v (tab (differenceAt channel) i) h e ∙ (rw d (sym (tab-more (differenceAt channel) i)))

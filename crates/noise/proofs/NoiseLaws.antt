@@ -15,6 +15,8 @@ use Rattle.floats.specs.MaxMin.{max}
 use Rattle.readings.specs.Parts.{part}
 use Rattle.readings.specs.Channels.{hasChannel, channelOf}
 use Rattle.readings.proofs.PartLaws.{part-length}
+use Rattle.areas.specs.Cleared.{Cleared}
+use Rattle.areas.proofs.ClearedLaws.{cleared-part}
 use Rattle.sums.specs.Extremes.{rangeOf}
 use Rattle.noise.specs.Median.{differences, median}
 use Rattle.noise.specs.Noise.{spreadOf, floorOf, squared, noise, noiseSumTo, hasRoom, cleared, Lent}
@@ -64,6 +66,13 @@ part-cleared area ys n place k h e f =
     let g : ys ≡ replicate k +0 = f ∙ ap (λ (m : ℕ). replicate m +0) (part-length area place k (omega arith)) in
     rw (g, drop-drop k place area, e)
 
+pub place-cleared : (area ys : List Float) (n place k : ℕ) → place + (n - 1) ≤ length area → k ≡ n - 1 → Cleared +0 area ys place k → ys ≡ cleared area n place
+unfolding cleared part
+place-cleared area ys n place k h e s =
+    let r = rw e at s in
+    sym (take-append-drop place ys)
+    ∙ ap₂ _++_ (r .frame .front) (sym (take-append-drop (n - 1) (drop place ys)) ∙ ap₂ _++_ (cleared-part r h) (drop-drop (n - 1) place ys ∙ r .frame .back))
+
 -- what is cleared is +0 there, and clearing no more than that changes nothing
 take-replicate : (j k : ℕ) (v : Float) → j ≤ k → take j (replicate k v) ≡ replicate j v
 take-replicate j k v h =
@@ -72,9 +81,9 @@ take-replicate j k v h =
     ∙ ap (take j) (sym (replicate-append-replicate j (k - j) v))
     ∙ take-at (replicate j v) (replicate (k - j) v) j (length-replicate j v)
 
-cleared-part : (area : List Float) (n place : ℕ) → place + (n - 1) ≤ length area → part (cleared area n place) place (n - 1) ≡ replicate (n - 1) +0
+zeros-there : (area : List Float) (n place : ℕ) → place + (n - 1) ≤ length area → part (cleared area n place) place (n - 1) ≡ replicate (n - 1) +0
 unfolding cleared part
-cleared-part area n place h =
+zeros-there area n place h =
     ap (take (n - 1)) (drop-at (take place area) (replicate (n - 1) +0 ++ drop (place + (n - 1)) area) place (length-take-le place area (omega arith)))
     ∙ take-at (replicate (n - 1) +0) (drop (place + (n - 1)) area) (n - 1) (length-replicate (n - 1) +0)
 
@@ -131,7 +140,7 @@ channel-lent run ch base area₀ area after n k place v h e f g l =
     long = ap length (f ∙ e) ∙ cleared-length base n place room
 
     clear : part area₀ place (n - 1) ≡ replicate (n - 1) +0
-    clear = ap (λ (s : List Float). part s place (n - 1)) e ∙ cleared-part base n place room
+    clear = ap (λ (s : List Float). part s place (n - 1)) e ∙ zeros-there base n place room
 
     there : (v ≡ noise ch) × (after ≡ cleared area (length ch) place)
     there = lent-there (room-is (length area) (length ch) place (omega (arith, room, short, long))) l

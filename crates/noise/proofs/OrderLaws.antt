@@ -1,13 +1,11 @@
 -- The order of differences is a strict weak one: of two values at most one is ahead of the other, and standing level is transitive. Assumes nothing.
 use mathlib.Core.Path.{_≡_, refl, sym, _∙_, subst}
 use mathlib.Core.Bool.{Bool, true, false, not, _||_, true≢false, false≢true}
-use Prim.Native.Nat.{_*_}
-use lib.Dec.{T, eqb, eqb-refl}
-use lib.Ieee.{Float, nan, inf, fin, up, down, lt, eq, ne, isNan}
-use lib.Ieee.Compare.{differs-from-itself, nan-differs}
+use lib.Dec.{T}
+use lib.Ieee.{Float, nan, inf, fin, lt, isNan}
 use lib.Ieee.Bits.{is-true}
 use Rattle.floats.proofs.Order.Laws.{number, lt→le, not-lt→le, lt-then-le, lt-not-le}
-use Rattle.noise.specs.Order.{ahead}
+use Rattle.floats.specs.Ahead.{ahead}
 
 pub holds : {b : Bool} → b ≡ true → T b
 holds e = subst T (sym e) tt
@@ -101,26 +99,3 @@ not-ahead-twice x y z h k = side (ahead z x) refl
     side : (b : Bool) → ahead z x ≡ b → ahead z x ≡ false
     side true e = absurd (true≢false (sym (ahead-of-later z x y e h) ∙ k))
     side false e = e
-
--- ---- the tests of the code
-pub ahead-less : (y x : Float) → lt y x ≡ true → true ≡ ahead y x
-unfolding ahead
-ahead-less y x h = rw h
-
-equals-itself : (y : Float) → eq y y ≡ not (isNan y)
-unfolding eq isNan
-equals-itself nan = refl
-equals-itself (inf true) = refl
-equals-itself (inf false) = refl
-equals-itself (fin true m e) = rw (is-true (eqb (m * up e * down e) (m * up e * down e)) (eqb-refl (m * up e * down e)))
-equals-itself (fin false m e) = rw (is-true (eqb (m * up e * down e) (m * up e * down e)) (eqb-refl (m * up e * down e)))
-
-pub ahead-nan : (y x : Float) → lt y x ≡ false → ne x x ≡ true → eq y y ≡ ahead y x
-unfolding ahead isNan
-ahead-nan y x h k = rw (h, differs-from-itself x (holds k)) (equals-itself y)
-
-pub ahead-level : (y x : Float) → lt y x ≡ false → ne x x ≡ false → false ≡ ahead y x
-unfolding ahead isNan
-ahead-level y nan h k = absurd (true≢false (sym nan-differs ∙ k))
-ahead-level y (inf s) h k = rw h
-ahead-level y (fin s m e) h k = rw h

@@ -8,7 +8,6 @@
 // median and the sort, and no public contract says that anything was sorted.
 mod heap;
 mod middle;
-mod order;
 mod variance;
 
 pub use variance::noise_sum;

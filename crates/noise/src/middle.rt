@@ -7,6 +7,7 @@ ghost use Rattle.noise.specs.Heaps.{Each, magnitude, middlesOf};
 ghost use Rattle.noise.specs.Median.{differences, median};
 use crate::Middles;
 use crate::heap::sort;
+use areas::clear_floats;
 
 // Cost: one turn for each difference.
 fn difference(channel: &[f64], run: &mut [f64])
@@ -16,17 +17,6 @@ fn difference(channel: &[f64], run: &mut [f64])
     let mut i = 0;
     while i < run.len() {
         run[i] = floats::abs(channel[i + 1] - channel[i]);
-        i += 1;
-    }
-}
-
-// Cost: one turn for each place.
-pub(crate) fn clear(run: &mut [f64])
-    ensures { λ r. ⌜ now (run .exit) ≡ replicate (length (now (run .entry))) +0 ⌝ }
-{
-    let mut i = 0;
-    while i < run.len() {
-        run[i] = 0.0;
         i += 1;
     }
 }
@@ -52,8 +42,9 @@ pub(crate) fn median_difference(channel: &[f64], run: &mut [f64]) -> f64
 {
     difference(channel, run);
     let two = middles(run);
-    clear(run);
-    if run.len() % 2 == 1 {
+    let size = run.len();
+    clear_floats(run, 0, size);
+    if size % 2 == 1 {
         return two.high;
     }
     0.5 * (two.low + two.high)

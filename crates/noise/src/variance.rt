@@ -4,8 +4,8 @@ ghost use mathlib.Core.Bool.{true};
 ghost use Prim.Native.Nat.{_-_};
 ghost use lib.ListN.{length};
 ghost use Rattle.noise.specs.Noise.{hasRoom, noise, noiseSumTo, cleared, Lent};
-use crate::middle::clear;
 use crate::middle::median_difference;
+use areas::clear_floats;
 use floats::max;
 use readings::channel;
 use sums::range_of;
@@ -55,8 +55,7 @@ fn add_noise(run: &[f64], n: usize, channels: usize, area: &mut [f64], place: us
     requires { ⌜ hasRoom (length (now area)) n place ≡ true ⌝ }
     ensures { λ r. ⌜ (r ≡ noiseSumTo (now (run .entry)) n channels) × (now (area .exit) ≡ cleared (now (area .entry)) n place) ⌝ }
 {
-    let end = place + steps(n);
-    clear(&mut area[place..end]);
+    clear_floats(area, place, steps(n));
     let mut sum = 0.0;
     let mut k = 0;
     while k < channels {

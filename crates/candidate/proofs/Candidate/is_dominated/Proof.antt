@@ -15,18 +15,15 @@ returns : tie.Need-returns
 unfolding isDominated spanAt
 returns c = rw (eq-eqb _ _ (c .if1 .taken)) refl
 
-element-copy-out-either : tie.Need-element-copy-out-either
-element-copy-out-either c = search needs
+element-copy-out-result : tie.Need-element-copy-out-result
+element-copy-out-result c = search needs
 
-element-copy-out-either-2 : tie.Need-element-copy-out-either-2
-element-copy-out-either-2 c = search needs
-
-either-requires : tie.Need-either-requires
-either-requires c κs = search needs
+element-copy-out-result-2 : tie.Need-element-copy-out-result-2
+element-copy-out-result-2 c = search needs
 
 returns-2 : tie.Need-returns-2
 unfolding isDominated spanAt
-returns-2 c = rw (ne-eqb _ _ (c .before .before .before .if1 .left)) (c .either .ensures)
+returns-2 c = rw (ne-eqb _ _ (c .before .before .if1 .left)) refl
 
 pub is-dominated-spec : {M : Type 1} → statement M
 is-dominated-spec =
@@ -35,7 +32,6 @@ is-dominated-spec =
     element-copy-out-first
     element-copy-out-first-2
     returns
-    element-copy-out-either
-    element-copy-out-either-2
-    either-requires
+    element-copy-out-result
+    element-copy-out-result-2
     returns-2)

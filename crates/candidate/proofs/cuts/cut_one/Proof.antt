@@ -4,10 +4,10 @@ use native.Mathlib.Omega.{arith}
 use borrow.Author.Needs.{needs}
 use Rattle.candidate.proofs.cuts.cut_one.Statement.{statement}
 use Rattle.candidate.proofs.cuts.cut_one.Tie as tie
+use Rattle.candidate.specs.Boxes.{gone}
 use Rattle.candidate.specs.Balls.{held, heldAt}
 use Rattle.candidate.specs.Cuts.{cutTo, cutRooted}
-use Rattle.candidate.proofs.CutLaws.{cut-more, cut-gone}
-use Rattle.candidate.proofs.BallLaws.{ball-read}
+use Rattle.candidate.proofs.CutLaws.{ball-read, cut-along, cut-more, cut-gone}
 
 abbrev Inv-loop : tie.InvT-loop
 Inv-loop candidate₀ balls place count i₀ candidate i = (i ≤ count) × (candidate ≡ cutTo cutRooted (held balls place count) candidate₀ i)
@@ -19,11 +19,11 @@ loop-holds : tie.Need-loop-holds Inv-loop μ-loop
 unfolding cutTo
 loop-holds c = (omega arith, refl)
 
-is-gone-requires : tie.Need-is-gone-requires Inv-loop μ-loop
-is-gone-requires c κs = search needs
+first-requires : tie.Need-first-requires Inv-loop μ-loop
+first-requires c κs = search needs
 
 returns : tie.Need-returns Inv-loop μ-loop
-returns c = cut-gone _ _ _ _ _ (c .before .before .before .loop .inv .1) (sym (c .before .is-gone .ensures) ∙ c .if1 .taken) (c .before .before .before .loop .inv .0)
+returns c = cut-gone _ _ _ _ _ (c .before .before .before .before .loop .inv .1) (sym (ap gone (c .before .before .first .ensures)) ∙ c .if1 .taken) (c .before .before .before .before .loop .inv .0)
 
 add-cut-by-root : tie.Need-add-cut-by-root Inv-loop μ-loop
 add-cut-by-root c = search needs
@@ -49,6 +49,9 @@ shared-slice-read-cut-by-root-2 c = search needs
 cut-by-root-requires : tie.Need-cut-by-root-requires Inv-loop μ-loop
 cut-by-root-requires c κs = search needs
 
+with-first-requires : tie.Need-with-first-requires Inv-loop μ-loop
+with-first-requires c κs = search needs
+
 add-i : tie.Need-add-i Inv-loop μ-loop
 add-i c = search needs
 
@@ -56,8 +59,8 @@ loop-less : tie.Need-loop-less Inv-loop μ-loop
 loop-less c = omega arith
 
 loop-again : tie.Need-loop-again Inv-loop μ-loop
-unfolding heldAt cutRooted
-loop-again c = (omega arith, cut-more _ _ _ _ (c .before .before .before .before .before .before .loop .inv .1) (sym (c .before .before .before .before .is-gone .ensures) ∙ c .before .before .before .if1 .left) (ball-read _ _ _ _ (c .before .before .before .before .before .loop-test .taken)) (c .cut-by-root .ensures))
+unfolding heldAt
+loop-again c = (omega arith, cut-more _ _ _ _ (c .before .before .before .before .before .before .before .before .loop .inv .1) (sym (ap gone (c .before .before .before .before .before .before .first .ensures)) ∙ c .before .before .before .before .if1 .left) (ball-read _ _ _ _ (c .before .before .before .before .before .before .before .loop-test .taken)) (cut-along _ _ _ _ (c .before .before .before .before .before .before .first .ensures) (c .before .cut-by-root .ensures) (c .with-first .ensures)))
 
 returns-2 : tie.Need-returns-2 Inv-loop μ-loop
 returns-2 c = let e : c .before .loop .i ≡ c .before .before .before .args .count = omega arith in c .before .loop .inv .1 ∙ ap (cutTo cutRooted _ _) e
@@ -69,7 +72,7 @@ cut-one-spec =
     Inv-loop
     μ-loop
     loop-holds
-    is-gone-requires
+    first-requires
     returns
     add-cut-by-root
     mul-cut-by-root
@@ -79,6 +82,7 @@ cut-one-spec =
     mul-cut-by-root-2
     shared-slice-read-cut-by-root-2
     cut-by-root-requires
+    with-first-requires
     add-i
     loop-less
     loop-again

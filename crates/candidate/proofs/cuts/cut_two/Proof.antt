@@ -4,10 +4,10 @@ use native.Mathlib.Omega.{arith}
 use borrow.Author.Needs.{needs}
 use Rattle.candidate.proofs.cuts.cut_two.Statement.{statement}
 use Rattle.candidate.proofs.cuts.cut_two.Tie as tie
+use Rattle.candidate.specs.Boxes.{gone}
 use Rattle.candidate.specs.Balls.{held, heldAt}
-use Rattle.candidate.specs.Cuts.{cutTo, cutBy, cutRooted}
-use Rattle.candidate.proofs.CutLaws.{cut-more, cut-gone}
-use Rattle.candidate.proofs.BallLaws.{ball-read}
+use Rattle.candidate.specs.Cuts.{cutTo, cutBy}
+use Rattle.candidate.proofs.CutLaws.{ball-read, cut-more, cut-gone}
 
 abbrev Inv-loop : tie.InvT-loop
 Inv-loop candidate₀ balls place count i₀ candidate i = (i ≤ count) × (candidate ≡ cutTo (cutBy 2) (held balls place count) candidate₀ i)
@@ -19,11 +19,11 @@ loop-holds : tie.Need-loop-holds Inv-loop μ-loop
 unfolding cutTo
 loop-holds c = (omega arith, refl)
 
-is-gone-requires : tie.Need-is-gone-requires Inv-loop μ-loop
-is-gone-requires c κs = search needs
+first-requires : tie.Need-first-requires Inv-loop μ-loop
+first-requires c κs = search needs
 
 returns : tie.Need-returns Inv-loop μ-loop
-returns c = cut-gone _ _ _ _ _ (c .before .before .before .loop .inv .1) (sym (c .before .is-gone .ensures) ∙ c .if1 .taken) (c .before .before .before .loop .inv .0)
+returns c = cut-gone _ _ _ _ _ (c .before .before .before .before .loop .inv .1) (sym (ap gone (c .before .before .first .ensures)) ∙ c .if1 .taken) (c .before .before .before .before .loop .inv .0)
 
 add-cut-by : tie.Need-add-cut-by Inv-loop μ-loop
 add-cut-by c = search needs
@@ -68,8 +68,8 @@ loop-less : tie.Need-loop-less Inv-loop μ-loop
 loop-less c = omega arith
 
 loop-again : tie.Need-loop-again Inv-loop μ-loop
-unfolding heldAt cutRooted
-loop-again c = (omega arith, cut-more _ _ _ _ (c .before .before .before .before .before .before .before .loop .inv .1) (sym (c .before .before .before .before .before .is-gone .ensures) ∙ c .before .before .before .before .if1 .left) (ball-read _ _ _ _ (c .before .before .before .before .before .before .loop-test .taken)) (c .cut-by .ensures))
+unfolding heldAt
+loop-again c = (omega arith, cut-more _ _ _ _ (c .before .before .before .before .before .before .before .before .loop .inv .1) (sym (ap gone (c .before .before .before .before .before .before .first .ensures)) ∙ c .before .before .before .before .if1 .left) (ball-read _ _ _ _ (c .before .before .before .before .before .before .before .loop-test .taken)) (c .cut-by .ensures))
 
 returns-2 : tie.Need-returns-2 Inv-loop μ-loop
 returns-2 c = let e : c .before .loop .i ≡ c .before .before .before .args .count = omega arith in c .before .loop .inv .1 ∙ ap (cutTo (cutBy 2) _ _) e
@@ -81,7 +81,7 @@ cut-two-spec =
     Inv-loop
     μ-loop
     loop-holds
-    is-gone-requires
+    first-requires
     returns
     add-cut-by
     mul-cut-by

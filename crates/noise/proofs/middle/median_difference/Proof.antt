@@ -9,6 +9,7 @@ use borrow.Author.Needs.{needs}
 use Rattle.noise.proofs.middle.median_difference.Statement.{statement}
 use denote.Ref.{now}
 use Rattle.noise.proofs.MedianLaws.{differences-ready, odd-median, even-median, differences-length}
+use Rattle.areas.proofs.ClearedLaws.{cleared-whole}
 use Rattle.floats.specs.Numbers.{+0, ratio}
 use Rattle.noise.specs.Median.{differences}
 use Rattle.noise.specs.Heaps.{middlesOf}
@@ -23,14 +24,14 @@ module _ (c : tie.After-slice-known4) where
   unfolding channel
   found = c .before .before .before .before .before .before .middles .ensures ∙ ap middlesOf (c .before .before .before .before .before .before .before .before .before .before .difference .ensures)
 
-  counted : length (c .before .before .clear .last .0) ≡ length (differences channel)
+  counted : length (c .before .before .before .before .before .before .middles .last .0) ≡ length (differences channel)
   unfolding channel
   counted = omega (arith, differences-length (now (c .before .before .before .before .before .before .before .before .before .before .before .before .before .before .args .channel)), c .before .before .before .before .before .before .before .before .before .before .before .before .before .before .pre .0)
 
-  wiped : c .before .before .clear .last .0 ≡ replicate (length (now (c .before .before .before .before .before .before .before .before .before .before .before .before .before .before .args .run))) +0
+  wiped : c .before .before .clear-floats .last .0 ≡ replicate (length (now (c .before .before .before .before .before .before .before .before .before .before .before .before .before .before .args .run))) +0
   wiped =
       let l : length (c .before .before .before .before .before .before .middles .last .0) ≡ length (now (c .before .before .before .before .before .before .before .before .before .before .before .before .before .before .args .run)) = omega arith in
-      c .before .before .clear .ensures ∙ ap (λ (n : ℕ). replicate n +0) l
+      cleared-whole (c .before .before .clear-floats .ensures) ∙ ap (λ (n : ℕ). replicate n +0) l
 
 difference-requires : tie.Need-difference-requires
 difference-requires c κs = search needs
@@ -38,8 +39,8 @@ difference-requires c κs = search needs
 middles-requires : tie.Need-middles-requires
 middles-requires c κs = differences-ready _ _ _ (c .before .before .before .difference .ensures) (c .before .before .before .before .before .before .before .pre .0) (c .before .before .before .before .before .before .before .pre .1)
 
-clear-requires : tie.Need-clear-requires
-clear-requires c κs = search needs
+clear-floats-requires : tie.Need-clear-floats-requires
+clear-floats-requires c κs = search needs
 
 same-length : tie.Need-same-length
 same-length c = search needs
@@ -61,7 +62,7 @@ median-difference-spec =
     (tie.spec
     difference-requires
     middles-requires
-    clear-requires
+    clear-floats-requires
     same-length
     returns
     same-length-2

@@ -1,51 +1,32 @@
 -- `noise::variance::add_noise` meets its contract. The loop's invariant: the sum of the first k channels, and the area as the loop found it. Assumes nothing.
 use mathlib.Core.Path.{_≡_, refl, ap, _∙_}
-use mathlib.Core.List.{_++_}
-use Prim.Native.Nat.{_≤_, _-_, _+_}
+use Prim.Native.Nat.{_≤_, _-_}
 use native.Mathlib.Omega.{arith}
-use lib.ListN.{length, take, drop}
+use lib.ListN.{length}
 use lib.Ieee.{ofBits}
 use borrow.Author.Needs.{needs}
 use Rattle.noise.proofs.variance.add_noise.Statement.{statement}
 use denote.Ref.{now}
 use Rattle.noise.specs.Noise.{noiseSumTo, cleared}
-use Rattle.noise.proofs.NoiseLaws.{has-room, part-cleared, channel-lent, sum-more, cleared-length}
+use Rattle.noise.proofs.NoiseLaws.{has-room, place-cleared, channel-lent, sum-more, cleared-length}
 use Rattle.noise.proofs.variance.add_noise.Tie as tie
 
 abbrev Inv-loop : tie.InvT-loop
-Inv-loop run n channels area₀ place end sum₀ k₀ area sum k = (k ≤ channels) × (sum ≡ noiseSumTo run n k) × (area ≡ area₀)
+Inv-loop run n channels area₀ place sum₀ k₀ area sum k = (k ≤ channels) × (sum ≡ noiseSumTo run n k) × (area ≡ area₀)
 
 abbrev μ-loop : tie.MeasureT-loop
-μ-loop run n channels area₀ place end sum₀ k₀ area sum k = channels - k
+μ-loop run n channels area₀ place sum₀ k₀ area sum k = channels - k
 
 -- the area as the loop finds it
-emptied : (c : tie.After-slice-known2 Inv-loop μ-loop) → let a = c .before .before .before .before .before .before .before .args in let k = a .place + c .before .before .before .before .steps .result - a .place in
-    take (a .place) (now (a .area)) ++ (c .before .before .clear .last .0 ++ drop k (drop (a .place) (now (a .area)))) ≡ cleared (now (a .area)) (a .n) (a .place)
+emptied : (c : tie.After-slice-known2 Inv-loop μ-loop) → let a = c .before .before .before .before .before .before .before .args in c .before .before .clear-floats .last .0 ≡ cleared (now (a .area)) (a .n) (a .place)
 emptied c =
-    let a = c .before .before .before .before .before .before .before .args in
-    let e : a .place + c .before .before .before .before .steps .result - a .place ≡ a .n - 1 = omega arith in
-    part-cleared (now (a .area)) _ _ _ _ (has-room _ _ _ (c .before .before .before .before .before .before .before .pre)) e (c .before .before .clear .ensures)
+    place-cleared _ _ _ _ _ (has-room _ _ _ (c .before .before .before .before .before .before .before .pre)) (c .before .before .before .steps .ensures) (c .before .before .clear-floats .ensures)
 
 steps-requires : tie.Need-steps-requires Inv-loop μ-loop
 steps-requires c κs = search needs
 
-add-end : tie.Need-add-end Inv-loop μ-loop
-add-end c = omega (arith, has-room _ _ _ (c .before .before .before .pre))
-
-mul-clear : tie.Need-mul-clear Inv-loop μ-loop
-mul-clear c = omega (arith, has-room _ _ _ (c .before .before .before .pre))
-
-sub-clear : tie.Need-sub-clear Inv-loop μ-loop
-sub-clear c = search needs
-
-part-clear-start : tie.Need-part-clear-start Inv-loop μ-loop
-part-clear-start c = search needs
-
-part-clear-end : tie.Need-part-clear-end Inv-loop μ-loop
-part-clear-end c = omega (arith, has-room _ _ _ (c .before .before .before .pre))
-
-clear-requires : tie.Need-clear-requires Inv-loop μ-loop
-clear-requires c κs = search needs
+clear-floats-requires : tie.Need-clear-floats-requires Inv-loop μ-loop
+clear-floats-requires c κs = search needs
 
 loop-holds : tie.Need-loop-holds Inv-loop μ-loop
 unfolding noiseSumTo ofBits
@@ -87,12 +68,7 @@ add-noise-spec =
     Inv-loop
     μ-loop
     steps-requires
-    add-end
-    mul-clear
-    sub-clear
-    part-clear-start
-    part-clear-end
-    clear-requires
+    clear-floats-requires
     loop-holds
     channel-requires
     noise-variance-requires

@@ -1,0 +1,2 @@
+pub mod LosingLaws
+pub mod Outcomes

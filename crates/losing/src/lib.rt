@@ -1,0 +1,12 @@
+// The balls in which a candidate loses, as they stand in an area: from a place on three runs of 64, the
+// first numbers of the centres, the second numbers, and the squares of the radii.
+//
+// No public function asks anything of its caller: where there is no room for the runs, nothing is
+// done. Each result, and each area afterwards, is to the bit what `specs/Losing` says.
+mod balls;
+
+pub use balls::has_room;
+pub use balls::lose;
+
+// How many balls a candidate keeps.
+pub const LOSING_BALLS: usize = 64;

@@ -1,0 +1,17 @@
+use borrow.Author.Needs.{needs}
+use Rattle.spans.proofs.slabs.cut_ends.Statement.{statement}
+use Rattle.spans.proofs.slabs.cut_ends.Tie as tie
+use Rattle.spans.specs.Slabs.{cutEnds}
+
+moved-requires : tie.Need-moved-requires
+moved-requires c κs = search needs
+
+moved-requires-2 : tie.Need-moved-requires-2
+moved-requires-2 c κs = search needs
+
+returns : tie.Need-returns
+unfolding cutEnds
+returns c = cc
+
+pub cut-ends-spec : {M : Type 1} → statement M
+cut-ends-spec = tie.close (tie.spec moved-requires moved-requires-2 returns)

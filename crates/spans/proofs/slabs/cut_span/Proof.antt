@@ -1,0 +1,22 @@
+use mathlib.Core.Path.{refl}
+use borrow.Author.Needs.{needs}
+use Rattle.spans.proofs.slabs.cut_span.Statement.{statement}
+use Rattle.spans.proofs.slabs.cut_span.Tie as tie
+use Rattle.spans.specs.Slabs.{cutSpan}
+
+returns : tie.Need-returns
+unfolding cutSpan
+returns c = rw (c .if1 .taken) refl
+
+sqrt-requires : tie.Need-sqrt-requires
+sqrt-requires c κs = search needs
+
+cut-ends-requires : tie.Need-cut-ends-requires
+cut-ends-requires c κs = search needs
+
+returns-2 : tie.Need-returns-2
+unfolding cutSpan
+returns-2 c = rw (c .before .before .if1 .left, ← c .before .sqrt .ensures) (c .cut-ends .ensures)
+
+pub cut-span-spec : {M : Type 1} → statement M
+cut-span-spec = tie.close (tie.spec returns sqrt-requires cut-ends-requires returns-2)
