@@ -1,6 +1,6 @@
 -- Laws of the costs that an area's sums give: one channel more, what fits does not wrap, and where the area holds the sums of a run they are the run's costs. Assumes nothing.
 use Prim.Native.Nat.{ℕ, zero, suc, _+_, _-_, _*_, _≤_, _<_}
-use mathlib.Core.Path.{_≡_, refl, sym, ap, ap₂, _∙_}
+use mathlib.Core.Path.{_≡_, refl, ap, ap₂, _∙_}
 use mathlib.Core.Bool.{Bool, true, false, _&&_, false≢true}
 use mathlib.Core.List.{List}
 use native.Mathlib.Omega.{arith}
@@ -10,9 +10,7 @@ use borrow.Author.Tests.{leb-true, ltb-true, le-leb, lt-ltb}
 use lib.Dec.{leb, ltb}
 use lib.ListN.{length, getD}
 use lib.Ieee.{Float, nan}
-use Rattle.floats.specs.Numbers.{_+ᶠ_, _-ᶠ_, whole}
-use Rattle.readings.specs.Parts.{part, tab}
-use Rattle.readings.specs.Channels.{channelOf}
+use Rattle.floats.specs.Numbers.{_+ᶠ_}
 use Rattle.readings.proofs.PartLaws.{part-at, tab-at}
 use Rattle.sums.specs.Sums.{meanOf, centredTo, squaresTo, Held}
 use Rattle.sums.specs.EachChannel.{Sums}

@@ -1,5 +1,5 @@
 -- Searches by computation: the row that document 01 runs only, a winner that is dropped with the others, three channels, an early tie, a NaN penalty. Assumes nothing.
-use Prim.Native.Nat.{ℕ, _^_}
+use Prim.Native.Nat.{_^_}
 use mathlib.Core.Path.{_≡_, refl}
 use mathlib.Core.List.{List, [], _∷_}
 use lib.ListN.{getD}

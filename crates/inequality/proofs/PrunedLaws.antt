@@ -1,10 +1,10 @@
 -- Laws of the whole search: the plan's room, what is left where the search fits and where it does not, and that one outcome meets `Pruned`. Assumes nothing.
-use Prim.Native.Nat.{ℕ, _+_, _-_, _*_, _≤_}
+use Prim.Native.Nat.{ℕ, _+_, _-_, _*_}
 use mathlib.Core.Bool.{Bool, true, false, true≢false}
-use mathlib.Core.Path.{_≡_, refl, sym, ap, ap₂, _∙_}
+use mathlib.Core.Path.{_≡_, refl, sym, ap, _∙_}
 use mathlib.Core.List.{List, _++_}
 use native.Mathlib.Omega.{arith}
-use lib.ListN.{length, take, drop, replicate}
+use lib.ListN.{length, take, replicate}
 use lib.Ieee.{Float}
 use Rattle.floats.specs.Numbers.{+0}
 use Rattle.readings.specs.Parts.{part}
@@ -14,7 +14,7 @@ use Rattle.costs.specs.declared.CostFunction.{CostFunction}
 use Rattle.recurrence.specs.Room.{searchFits}
 use Rattle.recurrence.proofs.RoomLaws.{Series, Roomy, split-floats}
 use Rattle.inequality.specs.declared.Plan.{Plan}
-use Rattle.inequality.specs.Inequality.{State, predecessors, price, stateAfter}
+use Rattle.inequality.specs.Inequality.{State, predecessors}
 use Rattle.inequality.specs.Pruned.{Pruned}
 use Rattle.inequality.specs.Held.{Room, planned, view, Holds}
 

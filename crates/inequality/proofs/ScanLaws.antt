@@ -1,7 +1,7 @@
 -- Laws of the scan and of the candidates that stay: nothing done yet, one candidate more, and that the parts held beside the candidates decide as the recurrence does. Assumes nothing.
-use Prim.Native.Nat.{ℕ, zero, suc, _+_, _-_, _*_, _≤_, _<_}
-use mathlib.Core.Bool.{Bool, true, false, cond}
-use mathlib.Core.Path.{_≡_, refl, sym, ap, _∙_, subst}
+use Prim.Native.Nat.{ℕ, zero, suc, _+_, _-_, _≤_, _<_}
+use mathlib.Core.Bool.{true, false}
+use mathlib.Core.Path.{_≡_, refl, sym, _∙_, subst}
 use mathlib.Core.List.{List, [], _∷_, _++_}
 use native.Mathlib.Omega.{arith}
 use native.Mathlib.Nat.{le-of-lt}
@@ -13,7 +13,7 @@ use Rattle.floats.specs.Numbers.{_+ᶠ_, _<ᶠ_, -∞}
 use Rattle.sums.specs.EachChannel.{Sums}
 use Rattle.costs.specs.Areas.{areaCost}
 use Rattle.costs.proofs.AreaLaws.{cost-of-run}
-use Rattle.readings.specs.Parts.{part, tab, Frame}
+use Rattle.readings.specs.Parts.{part, tab}
 use Rattle.readings.proofs.PartLaws.{part-front, part-length, part-at, read, push, grow, tab-at, frame-refl, frame-set}
 use Rattle.recurrence.specs.declared.Best.{Best}
 use Rattle.recurrence.specs.Minimum.{noneYet, scanTo, keptTo}

@@ -1,28 +1,27 @@
 -- Laws of a step over the lent areas: it makes the next state of the recurrence and leaves the areas ready for the next t; and how the areas begin and end. Assumes nothing.
 use Prim.Native.Nat.{ℕ, zero, suc, _+_, _-_, _*_, _≤_, _<_}
-use mathlib.Core.Bool.{Bool, true, false, cond}
-use mathlib.Core.Path.{_≡_, refl, sym, ap, ap₂, _∙_, subst}
+use mathlib.Core.Bool.{Bool, true}
+use mathlib.Core.Path.{_≡_, refl, sym, ap, _∙_, subst}
 use mathlib.Core.List.{List, [], _∷_, _++_}
 use native.Mathlib.Omega.{arith}
-use native.Mathlib.Nat.{not-suc-le-zero, le-of-suc-le-suc, eq-or-lt-of-le}
-use native.Mathlib.Numerals.{add-one}
-use lib.ListN.{length, getD, take, set, replicate, length-set, length-replicate, length-append}
-use lib.Ieee.{Float, nan, neg}
-use Rattle.floats.specs.Numbers.{_+ᶠ_, _<ᶠ_, +0}
-use Rattle.readings.specs.Parts.{part, tab, Frame}
+use native.Mathlib.Nat.{not-suc-le-zero, le-of-suc-le-suc}
+use lib.ListN.{length, getD, set, replicate, length-set}
+use lib.Ieee.{Float, neg}
+use Rattle.floats.specs.Numbers.{_+ᶠ_, +0}
+use Rattle.readings.specs.Parts.{part, tab}
 use Rattle.readings.proofs.PartLaws.{part-front, part-length, part-below, part-above, push, store, frame-refl, frame-set}
 use borrow.Author.Tests.{le-leb}
 use Rattle.areas.specs.Cleared.{Cleared}
 use Rattle.areas.proofs.ClearedLaws.{cleared-part}
-use Rattle.sums.specs.EachChannel.{Sums, sumsFit, RanEach}
+use Rattle.sums.specs.EachChannel.{sumsFit, RanEach}
 use Rattle.sums.proofs.ChannelLaws.{sums-kept}
 use Rattle.recurrence.specs.declared.Best.{Best}
-use Rattle.recurrence.specs.Minimum.{scanTo, keptTo}
+use Rattle.recurrence.specs.Minimum.{keptTo}
 use Rattle.recurrence.proofs.All.{All, all-at, all-last, all-map, all-from}
 use Rattle.recurrence.proofs.MinimumLaws.{kept-all}
 use Rattle.inequality.specs.declared.Plan.{Plan}
-use Rattle.inequality.specs.Inequality.{State, oldEnough, partOf, bestAt, staysAt, stepOf, stateAfter}
-use Rattle.inequality.specs.Held.{Room, planned, view, Below, Scanned, belowTo, Retained, Ready, Holds, Stepped}
+use Rattle.inequality.specs.Inequality.{State, partOf, bestAt, staysAt, stepOf, stateAfter}
+use Rattle.inequality.specs.Held.{Room, planned, view, Below, Scanned, Retained, Ready, Holds, Stepped}
 use Rattle.inequality.proofs.ScanLaws.{below-stays}
 
 state-eq : {f f′ : List Float} {l l′ c c′ : List ℕ} → f ≡ f′ → l ≡ l′ → c ≡ c′ → _≡_ {A = State} (record { f = f; last = l; candidates = c }) (record { f = f′; last = l′; candidates = c′ })

@@ -1,6 +1,6 @@
 -- Laws of the sums of all channels: what fits does not wrap, one channel more, and what an untouched front keeps. Assumes nothing.
 use Prim.Native.Nat.{ℕ, _+_, _*_, _≤_, _<_}
-use mathlib.Core.Path.{_≡_, refl, sym, ap, _∙_, subst}
+use mathlib.Core.Path.{_≡_, refl, sym, _∙_, subst}
 use mathlib.Core.Bool.{Bool, true, false, _&&_, true≢false, false≢true}
 use mathlib.Core.List.{List}
 use native.Mathlib.Omega.{arith}
@@ -11,7 +11,7 @@ use borrow.Author.Tests.{leb-true, le-leb, lt-ltb}
 use lib.Dec.{leb}
 use lib.ListN.{length}
 use lib.Ieee.{Float}
-use Rattle.readings.specs.Parts.{part, Frame}
+use Rattle.readings.specs.Parts.{Frame}
 use Rattle.readings.specs.Channels.{hasChannel, channelOf}
 use Rattle.readings.proofs.PartLaws.{part-front, part-length}
 use Rattle.sums.specs.Sums.{meanOf, Held, Summed}

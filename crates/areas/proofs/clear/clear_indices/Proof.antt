@@ -1,21 +1,13 @@
-use mathlib.Core.Path.{_≡_, refl, sym, ap, _∙_}
-use mathlib.Core.List.{List, [], _∷_, _++_}
-use mathlib.Core.Logic.{⊎-elim}
-use Prim.Native.Nat.{ℕ, suc, _≤_, _<_, _*_, _-_, _+_}
+use mathlib.Core.Path.{_≡_, refl, _∙_}
+use Prim.Native.Nat.{_≤_, _<_, _-_}
 use native.Mathlib.Omega.{arith}
-use native.Mathlib.Numerals.{add-one}
 use native.Mathlib.Nat.{le-antisymm}
-use lib.ListN.{length, getD, take, drop, set, length-set}
-use lib.Ieee.{Float, nan}
+use lib.ListN.{length, length-set}
 use borrow.Author.Needs.{needs}
 use Rattle.areas.proofs.clear.clear_indices.Statement.{statement}
 use Rattle.areas.proofs.clear.clear_indices.Tie as tie
-use Rattle.areas.proofs.clear.clear_indices.Reads as reads
-use Rattle.areas.proofs.clear.clear_indices.Lts as lts
-use Rattle.areas.proofs.clear.stop.Reads as stop-reads
 use denote.Ref.{now}
 use lib.Ieee.{ofBits}
-use Rattle.floats.specs.Numbers.{+0}
 use Rattle.areas.specs.Cleared.{Cleared, stopOf}
 use Rattle.areas.proofs.ClearedLaws.{cleared-at, cleared-more, cleared-all, stop-from, stop-in}
 

@@ -1,17 +1,7 @@
-use mathlib.Core.Path.{_≡_, refl, sym, ap, _∙_}
-use mathlib.Core.List.{List, [], _∷_, _++_}
-use mathlib.Core.Logic.{⊎-elim}
-use Prim.Native.Nat.{ℕ, suc, _≤_, _<_, _*_, _-_, _+_}
-use native.Mathlib.Omega.{arith}
-use native.Mathlib.Numerals.{add-one}
-use native.Mathlib.Nat.{le-antisymm}
-use lib.ListN.{length, getD, take, drop, set, length-set}
-use lib.Ieee.{Float, nan}
+use Prim.Native.Nat.{_-_}
 use borrow.Author.Needs.{needs}
 use Rattle.areas.proofs.clear.stop.Statement.{statement}
 use Rattle.areas.proofs.clear.stop.Tie as tie
-use Rattle.areas.proofs.clear.stop.Reads as reads
-use Rattle.areas.proofs.clear.stop.Lts as lts
 use borrow.Author.Tests.{lt-ltb, le-ltb}
 use Rattle.areas.specs.Cleared.{stopOf}
 

@@ -1,23 +1,14 @@
 use mathlib.Core.Path.{_≡_, refl, sym, ap, _∙_}
-use mathlib.Core.List.{List, [], _∷_, _++_}
-use mathlib.Core.Logic.{⊎-elim}
-use Prim.Native.Nat.{ℕ, suc, _≤_, _<_, _*_, _-_, _+_}
+use Prim.Native.Nat.{_≤_, _*_, _-_, _+_}
 use native.Mathlib.Omega.{arith}
-use native.Mathlib.Numerals.{add-one}
 use native.Mathlib.Nat.{le-antisymm}
-use lib.ListN.{length, getD, take, drop, set, length-set}
-use lib.Ieee.{Float, nan}
 use borrow.Author.Needs.{needs}
 use Rattle.costs.proofs.areas.add_channels.Statement.{statement}
 use Rattle.costs.proofs.areas.add_channels.Tie as tie
-use Rattle.costs.proofs.areas.add_channels.Reads as reads
-use Rattle.costs.proofs.areas.add_channels.Lts as lts
-use Rattle.costs.proofs.areas.segment_at.Reads as segment-at-reads
-use Rattle.costs.proofs.segments.segment_cost.Reads as segment-cost-reads
 use native.Mathlib.Nat.{zero-mul}
 use denote.Ref.{now}
 use lib.Ieee.{ofBits}
-use Rattle.costs.specs.Areas.{segmentAt, areaCostTo}
+use Rattle.costs.specs.Areas.{areaCostTo}
 use Rattle.costs.proofs.AreaLaws.{channel-added}
 use Rattle.sums.proofs.ChannelLaws.{mul-more, mul-room}
 

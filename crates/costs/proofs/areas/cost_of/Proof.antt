@@ -1,19 +1,8 @@
-use mathlib.Core.Path.{_≡_, refl, sym, ap, _∙_}
-use mathlib.Core.List.{List, [], _∷_, _++_}
-use mathlib.Core.Logic.{⊎-elim}
-use Prim.Native.Nat.{ℕ, suc, _≤_, _<_, _*_, _-_, _+_}
-use native.Mathlib.Omega.{arith}
-use native.Mathlib.Numerals.{add-one}
-use native.Mathlib.Nat.{le-antisymm}
-use lib.ListN.{length, getD, take, drop, set, length-set}
-use lib.Ieee.{Float, nan}
+use mathlib.Core.Path.{sym, _∙_}
+use Prim.Native.Nat.{_-_}
 use borrow.Author.Needs.{needs}
 use Rattle.costs.proofs.areas.cost_of.Statement.{statement}
 use Rattle.costs.proofs.areas.cost_of.Tie as tie
-use Rattle.costs.proofs.areas.cost_of.Reads as reads
-use Rattle.costs.proofs.areas.cost_of.Lts as lts
-use Rattle.costs.proofs.areas.add_channels.Reads as add-channels-reads
-use Rattle.costs.proofs.areas.segment_fits.Reads as segment-fits-reads
 use lib.Ieee.{ofBits, div}
 use Rattle.costs.specs.Areas.{areaCost}
 use Rattle.costs.proofs.AreaLaws.{fitted}

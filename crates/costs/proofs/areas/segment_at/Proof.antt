@@ -1,18 +1,7 @@
-use mathlib.Core.Path.{_≡_, refl, sym, ap, _∙_}
-use mathlib.Core.List.{List, [], _∷_, _++_}
-use mathlib.Core.Logic.{⊎-elim}
-use Prim.Native.Nat.{ℕ, suc, _≤_, _<_, _*_, _-_, _+_}
-use native.Mathlib.Omega.{arith}
-use native.Mathlib.Numerals.{add-one}
-use native.Mathlib.Nat.{le-antisymm}
-use lib.ListN.{length, getD, take, drop, set, length-set}
-use lib.Ieee.{Float, nan}
+use Prim.Native.Nat.{_-_}
 use borrow.Author.Needs.{needs}
 use Rattle.costs.proofs.areas.segment_at.Statement.{statement}
 use Rattle.costs.proofs.areas.segment_at.Tie as tie
-use Rattle.costs.proofs.areas.segment_at.Reads as reads
-use Rattle.costs.proofs.areas.segment_at.Lts as lts
-use Rattle.costs.proofs.areas.between.Reads as between-reads
 use Rattle.costs.specs.Areas.{segmentAt}
 
 sub-t6 : tie.Need-sub-t6

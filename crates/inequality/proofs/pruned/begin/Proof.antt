@@ -1,22 +1,11 @@
-use mathlib.Core.Path.{_≡_, refl, sym, ap, _∙_}
-use mathlib.Core.List.{List, [], _∷_, _++_}
-use mathlib.Core.Logic.{⊎-elim}
-use Prim.Native.Nat.{ℕ, suc, _≤_, _<_, _*_, _-_, _+_}
-use native.Mathlib.Omega.{arith}
-use native.Mathlib.Numerals.{add-one}
-use native.Mathlib.Nat.{le-antisymm}
-use lib.ListN.{length, getD, take, drop, set, length-set}
-use lib.Ieee.{Float, nan}
+use mathlib.Core.Path.{refl, _∙_}
+use Prim.Native.Nat.{_-_}
+use lib.ListN.{length-set}
 use borrow.Author.Needs.{needs}
 use Rattle.inequality.proofs.pruned.begin.Statement.{statement}
 use Rattle.inequality.proofs.pruned.begin.Tie as tie
-use Rattle.inequality.proofs.pruned.begin.Reads as reads
-use Rattle.inequality.proofs.pruned.begin.Lts as lts
-use Rattle.areas.proofs.clear_floats.Reads as clear-floats-reads
-use Rattle.areas.proofs.clear_indices.Reads as clear-indices-reads
-use Rattle.sums.proofs.channel_sums.Reads as channel-sums-reads
 use denote.Ref.{now}
-use lib.Ieee.{ofBits, neg}
+use lib.Ieee.{neg}
 use Rattle.inequality.proofs.StepLaws.{begun}
 
 add-w : tie.Need-add-w

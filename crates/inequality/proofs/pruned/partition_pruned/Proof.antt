@@ -1,22 +1,10 @@
-use mathlib.Core.Path.{_≡_, refl, sym, ap, _∙_}
-use mathlib.Core.List.{List, [], _∷_, _++_}
-use mathlib.Core.Logic.{⊎-elim}
-use Prim.Native.Nat.{ℕ, suc, _≤_, _<_, _*_, _-_, _+_}
+use mathlib.Core.Path.{_≡_, refl, sym, _∙_}
+use Prim.Native.Nat.{_≤_, _*_, _-_, _+_}
 use native.Mathlib.Omega.{arith}
-use native.Mathlib.Numerals.{add-one}
-use native.Mathlib.Nat.{le-antisymm}
-use lib.ListN.{length, getD, take, drop, set, length-set}
-use lib.Ieee.{Float, nan}
+use lib.ListN.{length}
 use borrow.Author.Needs.{needs}
 use Rattle.inequality.proofs.pruned.partition_pruned.Statement.{statement}
 use Rattle.inequality.proofs.pruned.partition_pruned.Tie as tie
-use Rattle.inequality.proofs.pruned.partition_pruned.Reads as reads
-use Rattle.inequality.proofs.pruned.partition_pruned.Lts as lts
-use Rattle.areas.proofs.clear_floats.Reads as clear-floats-reads
-use Rattle.areas.proofs.clear_indices.Reads as clear-indices-reads
-use Rattle.inequality.proofs.pruned.begin.Reads as begin-reads
-use Rattle.inequality.proofs.steps.search.Reads as search-reads
-use Rattle.recurrence.proofs.search_fits.Reads as search-fits-reads
 use denote.Ref.{now}
 use mathlib.Core.Bool.{true}
 use Rattle.recurrence.specs.Room.{searchFits}

@@ -1,19 +1,7 @@
-use mathlib.Core.Path.{_≡_, refl, sym, ap, _∙_}
-use mathlib.Core.List.{List, [], _∷_, _++_}
-use mathlib.Core.Logic.{⊎-elim}
-use Prim.Native.Nat.{ℕ, suc, _≤_, _<_, _*_, _-_, _+_}
-use native.Mathlib.Omega.{arith}
-use native.Mathlib.Numerals.{add-one}
-use native.Mathlib.Nat.{le-antisymm}
-use lib.ListN.{length, getD, take, drop, set, length-set}
-use lib.Ieee.{Float, nan}
+use Prim.Native.Nat.{_-_}
 use borrow.Author.Needs.{needs}
 use Rattle.inequality.proofs.scan.judge.Statement.{statement}
 use Rattle.inequality.proofs.scan.judge.Tie as tie
-use Rattle.inequality.proofs.scan.judge.Reads as reads
-use Rattle.inequality.proofs.scan.judge.Lts as lts
-use Rattle.inequality.proofs.scan.old_enough.Reads as old-enough-reads
-use Rattle.recurrence.proofs.better.Reads as better-reads
 use Rattle.inequality.specs.Held.{judged}
 
 old-enough-requires : tie.Need-old-enough-requires

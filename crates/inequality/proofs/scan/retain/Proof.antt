@@ -1,19 +1,12 @@
-use mathlib.Core.Path.{_≡_, refl, sym, ap, _∙_}
-use mathlib.Core.List.{List, [], _∷_, _++_}
-use mathlib.Core.Logic.{⊎-elim}
-use Prim.Native.Nat.{ℕ, suc, _≤_, _<_, _*_, _-_, _+_}
+use mathlib.Core.Path.{_≡_, refl, sym, _∙_}
+use Prim.Native.Nat.{_≤_, _-_}
 use native.Mathlib.Omega.{arith}
-use native.Mathlib.Numerals.{add-one}
 use native.Mathlib.Nat.{le-antisymm}
-use lib.ListN.{length, getD, take, drop, set, length-set}
-use lib.Ieee.{Float, nan}
+use lib.ListN.{getD}
+use lib.Ieee.{nan}
 use borrow.Author.Needs.{needs}
 use Rattle.inequality.proofs.scan.retain.Statement.{statement}
 use Rattle.inequality.proofs.scan.retain.Tie as tie
-use Rattle.inequality.proofs.scan.retain.Reads as reads
-use Rattle.inequality.proofs.scan.retain.Lts as lts
-use Rattle.inequality.proofs.scan.float_at.Reads as float-at-reads
-use Rattle.inequality.proofs.scan.index_at.Reads as index-at-reads
 use denote.Ref.{now}
 use Rattle.readings.specs.Parts.{part}
 use Rattle.readings.proofs.PartLaws.{part-at}

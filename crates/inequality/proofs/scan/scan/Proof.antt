@@ -1,25 +1,14 @@
-use mathlib.Core.Path.{_≡_, refl, sym, ap, _∙_}
-use mathlib.Core.List.{List, [], _∷_, _++_}
-use mathlib.Core.Logic.{⊎-elim}
-use Prim.Native.Nat.{ℕ, suc, _≤_, _<_, _*_, _-_, _+_}
+use mathlib.Core.Path.{refl}
+use Prim.Native.Nat.{_≤_, _-_}
 use native.Mathlib.Omega.{arith}
-use native.Mathlib.Numerals.{add-one}
 use native.Mathlib.Nat.{le-antisymm}
-use lib.ListN.{length, getD, take, drop, set, length-set}
-use lib.Ieee.{Float, nan}
 use borrow.Author.Needs.{needs}
 use Rattle.inequality.proofs.scan.scan.Statement.{statement}
 use Rattle.inequality.proofs.scan.scan.Tie as tie
-use Rattle.inequality.proofs.scan.scan.Reads as reads
-use Rattle.inequality.proofs.scan.scan.Lts as lts
-use Rattle.inequality.proofs.scan.index_at.Reads as index-at-reads
-use Rattle.inequality.proofs.scan.judge.Reads as judge-reads
-use Rattle.inequality.proofs.scan.weigh.Reads as weigh-reads
-use Rattle.recurrence.proofs.none_yet.Reads as none-yet-reads
 use denote.Ref.{now}
 use Rattle.readings.specs.Parts.{part}
 use Rattle.sums.proofs.ChannelLaws.{sums-kept}
-use Rattle.inequality.specs.Held.{Room, Scanned}
+use Rattle.inequality.specs.Held.{Scanned}
 use Rattle.inequality.proofs.ScanLaws.{scanned-none, scanned-more, scanned-all, candidate-at, candidate-below, room-kept}
 
 abbrev Inv-loop : tie.InvT-loop

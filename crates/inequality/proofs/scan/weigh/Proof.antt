@@ -1,20 +1,8 @@
-use mathlib.Core.Path.{_≡_, refl, sym, ap, _∙_}
-use mathlib.Core.List.{List, [], _∷_, _++_}
-use mathlib.Core.Logic.{⊎-elim}
-use Prim.Native.Nat.{ℕ, suc, _≤_, _<_, _*_, _-_, _+_}
-use native.Mathlib.Omega.{arith}
-use native.Mathlib.Numerals.{add-one}
-use native.Mathlib.Nat.{le-antisymm}
-use lib.ListN.{length, getD, take, drop, set, length-set}
-use lib.Ieee.{Float, nan}
+use mathlib.Core.Path.{refl, sym, _∙_}
+use Prim.Native.Nat.{_-_}
 use borrow.Author.Needs.{needs}
 use Rattle.inequality.proofs.scan.weigh.Statement.{statement}
 use Rattle.inequality.proofs.scan.weigh.Tie as tie
-use Rattle.inequality.proofs.scan.weigh.Reads as reads
-use Rattle.inequality.proofs.scan.weigh.Lts as lts
-use Rattle.costs.proofs.cost_of.Reads as cost-of-reads
-use Rattle.inequality.proofs.scan.float_at.Reads as float-at-reads
-use Rattle.inequality.proofs.scan.old_enough.Reads as old-enough-reads
 use denote.Ref.{now}
 use lib.Ieee.{nanBits, ofBits}
 use Rattle.inequality.proofs.ScanLaws.{young-part, old-part}

@@ -1,18 +1,11 @@
-use mathlib.Core.Path.{_≡_, refl, sym, ap, _∙_}
-use mathlib.Core.List.{List, [], _∷_, _++_}
-use mathlib.Core.Logic.{⊎-elim}
-use Prim.Native.Nat.{ℕ, suc, _≤_, _<_, _*_, _-_, _+_}
+use mathlib.Core.Path.{_≡_, _∙_}
+use Prim.Native.Nat.{_≤_, _-_, _+_}
 use native.Mathlib.Omega.{arith}
-use native.Mathlib.Numerals.{add-one}
 use native.Mathlib.Nat.{le-antisymm}
-use lib.ListN.{length, getD, take, drop, set, length-set}
-use lib.Ieee.{Float, nan}
+use lib.ListN.{length}
 use borrow.Author.Needs.{needs}
 use Rattle.inequality.proofs.steps.search.Statement.{statement}
 use Rattle.inequality.proofs.steps.search.Tie as tie
-use Rattle.inequality.proofs.steps.search.Reads as reads
-use Rattle.inequality.proofs.steps.search.Lts as lts
-use Rattle.inequality.proofs.steps.step.Reads as step-reads
 use Rattle.inequality.specs.Held.{Holds}
 use Rattle.inequality.proofs.StepLaws.{holds-next, holds-at}
 

@@ -1,19 +1,10 @@
-use mathlib.Core.Path.{_≡_, refl, sym, ap, _∙_}
-use mathlib.Core.List.{List, [], _∷_, _++_}
-use mathlib.Core.Logic.{⊎-elim}
-use Prim.Native.Nat.{ℕ, suc, _≤_, _<_, _*_, _-_, _+_}
+use mathlib.Core.Path.{_∙_}
+use Prim.Native.Nat.{_-_, _+_}
 use native.Mathlib.Omega.{arith}
-use native.Mathlib.Numerals.{add-one}
-use native.Mathlib.Nat.{le-antisymm}
-use lib.ListN.{length, getD, take, drop, set, length-set}
-use lib.Ieee.{Float, nan}
+use lib.ListN.{length-set}
 use borrow.Author.Needs.{needs}
 use Rattle.inequality.proofs.steps.step.Statement.{statement}
 use Rattle.inequality.proofs.steps.step.Tie as tie
-use Rattle.inequality.proofs.steps.step.Reads as reads
-use Rattle.inequality.proofs.steps.step.Lts as lts
-use Rattle.inequality.proofs.scan.retain.Reads as retain-reads
-use Rattle.inequality.proofs.scan.scan.Reads as scan-reads
 use denote.Ref.{now}
 use Rattle.inequality.proofs.StepLaws.{stepped}
 

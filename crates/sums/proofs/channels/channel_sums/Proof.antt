@@ -1,19 +1,8 @@
-use mathlib.Core.Path.{_≡_, refl, sym, ap, _∙_}
-use mathlib.Core.List.{List, [], _∷_, _++_}
-use mathlib.Core.Logic.{⊎-elim}
-use Prim.Native.Nat.{ℕ, suc, _≤_, _<_, _*_, _-_, _+_}
-use native.Mathlib.Omega.{arith}
-use native.Mathlib.Numerals.{add-one}
-use native.Mathlib.Nat.{le-antisymm}
-use lib.ListN.{length, getD, take, drop, set, length-set}
-use lib.Ieee.{Float, nan}
+use mathlib.Core.Path.{sym, _∙_}
+use Prim.Native.Nat.{_-_}
 use borrow.Author.Needs.{needs}
 use Rattle.sums.proofs.channels.channel_sums.Statement.{statement}
 use Rattle.sums.proofs.channels.channel_sums.Tie as tie
-use Rattle.sums.proofs.channels.channel_sums.Reads as reads
-use Rattle.sums.proofs.channels.channel_sums.Lts as lts
-use Rattle.sums.proofs.channels.one_after_the_other.Reads as one-after-the-other-reads
-use Rattle.sums.proofs.channels.sums_fit.Reads as sums-fit-reads
 use Rattle.sums.proofs.ChannelLaws.{fit, each-written, each-unchanged}
 
 sums-fit-requires : tie.Need-sums-fit-requires

@@ -1,19 +1,11 @@
 use mathlib.Core.Path.{_≡_, refl, sym, ap, _∙_}
-use mathlib.Core.List.{List, [], _∷_, _++_}
-use mathlib.Core.Logic.{⊎-elim}
-use Prim.Native.Nat.{ℕ, suc, _≤_, _<_, _*_, _-_, _+_}
+use Prim.Native.Nat.{ℕ, _≤_, _<_, _*_, _-_, _+_}
 use native.Mathlib.Omega.{arith}
-use native.Mathlib.Numerals.{add-one}
 use native.Mathlib.Nat.{le-antisymm}
-use lib.ListN.{length, getD, take, drop, set, length-set}
-use lib.Ieee.{Float, nan}
+use lib.ListN.{length}
 use borrow.Author.Needs.{needs}
 use Rattle.sums.proofs.channels.one_after_the_other.Statement.{statement}
 use Rattle.sums.proofs.channels.one_after_the_other.Tie as tie
-use Rattle.sums.proofs.channels.one_after_the_other.Reads as reads
-use Rattle.sums.proofs.channels.one_after_the_other.Lts as lts
-use Rattle.readings.proofs.channel.Reads as channel-reads
-use Rattle.sums.proofs.channels.about_its_mean.Reads as about-its-mean-reads
 use Rattle.readings.specs.Parts.{Frame}
 use Rattle.readings.proofs.PartLaws.{frame-refl, frame-trans, frame-wide}
 use Rattle.sums.specs.EachChannel.{Sums}

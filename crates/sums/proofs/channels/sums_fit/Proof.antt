@@ -1,17 +1,8 @@
-use mathlib.Core.Path.{_≡_, refl, sym, ap, _∙_}
-use mathlib.Core.List.{List, [], _∷_, _++_}
-use mathlib.Core.Logic.{⊎-elim}
-use Prim.Native.Nat.{ℕ, suc, _≤_, _<_, _*_, _-_, _+_}
+use Prim.Native.Nat.{_-_}
 use native.Mathlib.Omega.{arith}
-use native.Mathlib.Numerals.{add-one}
-use native.Mathlib.Nat.{le-antisymm}
-use lib.ListN.{length, getD, take, drop, set, length-set}
-use lib.Ieee.{Float, nan}
 use borrow.Author.Needs.{needs}
 use Rattle.sums.proofs.channels.sums_fit.Statement.{statement}
 use Rattle.sums.proofs.channels.sums_fit.Tie as tie
-use Rattle.sums.proofs.channels.sums_fit.Reads as reads
-use Rattle.sums.proofs.channels.sums_fit.Lts as lts
 use borrow.Author.Tests.{le-leb, lt-leb}
 use Rattle.sums.specs.EachChannel.{sumsFit}
 use Rattle.sums.proofs.ChannelLaws.{sums-small}

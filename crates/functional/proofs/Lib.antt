@@ -1,0 +1,11 @@
+pub mod Examples
+pub mod SoundLaws
+pub mod PeakLaws
+pub mod SlotLaws
+pub mod FaceLaws
+pub mod BallLaws
+pub mod BoxLaws
+pub mod NarrowLaws
+pub mod BirthLaws
+pub mod StepLaws
+pub mod PartitionLaws

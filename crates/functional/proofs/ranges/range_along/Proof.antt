@@ -1,0 +1,30 @@
+use mathlib.Core.Path.{ap, _∙_}
+use Prim.Native.Nat.{_-_}
+use lib.Ieee.{Float}
+use borrow.Author.Needs.{needs}
+use Rattle.functional.proofs.ranges.range_along.Statement.{statement}
+use Rattle.functional.proofs.ranges.range_along.Tie as tie
+use Rattle.sums.specs.Sums.{meanOf}
+use Rattle.sums.specs.Extremes.{rangeOf, about}
+use mathlib.Core.Path.{ap₂}
+use Rattle.sums.specs.declared.Range.{Range}
+
+channel-requires : tie.Need-channel-requires
+channel-requires c κs = search needs
+
+range-of-requires : tie.Need-range-of-requires
+range-of-requires c κs = search needs
+
+mean-requires : tie.Need-mean-requires
+mean-requires c κs = search needs
+
+range-about-requires : tie.Need-range-about-requires
+range-about-requires c κs = search needs
+
+returns : tie.Need-returns
+returns c = c .range-about .ensures ∙ ap₂ (λ (r : Range) (m : Float). about r m) (c .before .before .range-of .ensures ∙ ap rangeOf (c .before .before .before .channel .ensures)) (c .before .mean .ensures ∙ ap meanOf (c .before .before .before .channel .ensures))
+
+pub range-along-spec : {M : Type 1} → statement M
+range-along-spec =
+    tie.close
+    (tie.spec channel-requires range-of-requires mean-requires range-about-requires returns)

@@ -1,0 +1,78 @@
+use mathlib.Core.Path.{_≡_, refl}
+use Prim.Native.Nat.{_≤_, _-_}
+use native.Mathlib.Omega.{arith}
+use native.Mathlib.Nat.{le-antisymm}
+use lib.ListN.{length, length-set}
+use borrow.Author.Needs.{needs}
+use Rattle.functional.proofs.slots.copy_run.Statement.{statement}
+use Rattle.functional.proofs.slots.copy_run.Tie as tie
+use denote.Ref.{now}
+use Rattle.readings.specs.Parts.{part}
+use Rattle.functional.specs.Held.{Copied}
+use Rattle.functional.proofs.SlotLaws.{copied-none, copied-more, copied-all}
+
+abbrev Inv-loop : tie.InvT-loop
+Inv-loop pool₀ to from place count i₀ pool i = (i ≤ count) × (length pool ≡ length pool₀) × Copied pool₀ pool to (part from place i) i
+
+abbrev μ-loop : tie.MeasureT-loop
+μ-loop pool₀ to from place count i₀ pool i = count - i
+
+loop-holds : tie.Need-loop-holds Inv-loop μ-loop
+loop-holds c = (omega arith, refl, copied-none _ _ _ _)
+
+add-pool : tie.Need-add-pool Inv-loop μ-loop
+add-pool c = search needs
+
+mul-pool : tie.Need-mul-pool Inv-loop μ-loop
+mul-pool c = search needs
+
+shared-slice-read-pool : tie.Need-shared-slice-read-pool Inv-loop μ-loop
+shared-slice-read-pool c = search needs
+
+add-pool-2 : tie.Need-add-pool-2 Inv-loop μ-loop
+add-pool-2 c = search needs
+
+mul-pool-2 : tie.Need-mul-pool-2 Inv-loop μ-loop
+mul-pool-2 c = search needs
+
+slice-write-pool : tie.Need-slice-write-pool Inv-loop μ-loop
+slice-write-pool c = search needs
+
+add-i : tie.Need-add-i Inv-loop μ-loop
+add-i c = search needs
+
+loop-less : tie.Need-loop-less Inv-loop μ-loop
+loop-less c = search needs
+
+loop-again : tie.Need-loop-again Inv-loop μ-loop
+loop-again c =
+    let a = c .before .before .before .args in
+    let l = c .before .before .loop in
+    (omega arith, simp length-set (l .inv .1), copied-more (now (a .from)) (a .to) (a .place) (l .i) _ _ (l .inv .2) refl (omega arith) (omega arith) refl)
+
+same-length : tie.Need-same-length Inv-loop μ-loop
+same-length c = c .before .loop .inv .1
+
+returns : tie.Need-returns Inv-loop μ-loop
+returns c =
+    let a = c .before .before .args in
+    copied-all (now (a .from)) (a .to) (a .place) (le-antisymm (omega arith) (omega arith)) (c .before .loop .inv .2)
+
+pub copy-run-spec : {M : Type 1} → statement M
+copy-run-spec =
+    tie.close
+    (tie.spec
+    Inv-loop
+    μ-loop
+    loop-holds
+    add-pool
+    mul-pool
+    shared-slice-read-pool
+    add-pool-2
+    mul-pool-2
+    slice-write-pool
+    add-i
+    loop-less
+    loop-again
+    same-length
+    returns)

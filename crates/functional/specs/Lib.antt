@@ -1,0 +1,3 @@
+pub mod Functional
+pub mod Partitioned
+pub mod Held

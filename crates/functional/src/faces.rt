@@ -1,0 +1,89 @@
+// The balls with which a new candidate faces those before it.
+ghost use mathlib.Core.Path.{_≡_};
+ghost use Prim.Native.Nat.{ℕ, _+_, _-_, _*_, _≤_, _<_};
+ghost use lib.ListN.{length, getD};
+ghost use lib.Ieee.{nan};
+ghost use Rattle.floats.specs.Numbers.{_+ᶠ_, _-ᶠ_, _*ᶠ_, _/ᶠ_, whole, ratio};
+ghost use Rattle.floats.specs.Finite.{abs};
+ghost use Rattle.readings.specs.Parts.{part};
+ghost use Rattle.sums.specs.EachChannel.{Sums};
+ghost use Rattle.functional.specs.Functional.{facing, besides, centreAlong};
+ghost use Rattle.functional.specs.Held.{Room, task, putFacing, Below, Mapped};
+use crate::Facing;
+use crate::Plan;
+use crate::slots::float_at;
+use crate::slots::index_at;
+use crate::slots::put_facing;
+use costs::CostFunction;
+use costs::cost_of;
+use floats::abs;
+
+fn mean_between(floats: &[f64], place: usize, a: usize, b: usize) -> f64
+    requires { ⌜ (a < b) × (b ≤ 4096) × (place + b < length (now floats)) ⌝ }
+    ensures { λ r. ⌜ r ≡ (getD (now (floats .entry)) (place + b) nan -ᶠ getD (now (floats .entry)) (place + a) nan) /ᶠ whole (b - a) ⌝ }
+{
+    (float_at(floats, place + b) - float_at(floats, place + a)) / (((b - a) as u32) as f64)
+}
+
+// The mean along the second channel; 0 where there is none.
+fn second_mean(run: &[f64], floats: &[f64], plan: Plan, a: usize, b: usize) -> f64
+    requires { ⌜ (a < b) × (b ≤ plan .n) × Sums (now run) (plan .n) (plan .channels) (now floats) × ((li : ℕ) × (lp : ℕ) × Room plan (length (now floats)) li lp) ⌝ }
+    ensures { λ r. ⌜ r ≡ besides (task (now (run .entry)) plan) (centreAlong (task (now (run .entry)) plan) 1 a b) ⌝ }
+{
+    if plan.channels == 1 {
+        return 0.0;
+    }
+    mean_between(floats, 2 * (plan.n + 1), a, b)
+}
+
+// Room for the rounding of the four terms of the gap.
+fn slack_of(fb: f64, fa: f64, cost: f64, penalty: f64, length: f64) -> f64
+    ensures { λ r. ⌜ r ≡ ratio 1 1000000000 *ᶠ (abs fb +ᶠ abs fa +ᶠ abs cost +ᶠ penalty) /ᶠ length ⌝ }
+{
+    0.000000001 * (abs(fb) + abs(fa) + abs(cost) + penalty) / length
+}
+
+// What b means to the candidate a. The readings go along for the contract alone.
+fn face(run: &[f64], floats: &[f64], plan: Plan, a: usize, b: usize) -> Facing
+    requires { ⌜ (a < b) × (b ≤ plan .n) × Sums (now run) (plan .n) (plan .channels) (now floats) × ((li : ℕ) × (lp : ℕ) × Room plan (length (now floats)) li lp) ⌝ }
+    ensures { λ r. ⌜ r ≡ facing (task (now (run .entry)) plan) (part (now (floats .entry)) (plan .f) (plan .n + 1)) a b ⌝ }
+{
+    let f = plan.f;
+    let fa = float_at(floats, f + a);
+    let fb = float_at(floats, f + b);
+    let cost = cost_of(CostFunction::L2, floats, plan.n, plan.channels, a, b);
+    let length = ((b - a) as u32) as f64;
+    let gap = (fb - fa - cost) / length;
+    let slack = slack_of(fb, fa, cost, plan.penalty, length);
+    let cx = mean_between(floats, 0, a, b);
+    let cy = second_mean(run, floats, plan, a, b);
+    Facing {
+        cx,
+        cy,
+        outer: gap + slack,
+        inner: gap - slack,
+    }
+}
+
+// The ball of each living candidate against b, in its slot. Cost: one turn for each candidate.
+pub(crate) fn face_all(
+    run: &[f64],
+    floats: &[f64],
+    indices: &[usize],
+    pool: &mut [f64],
+    plan: Plan,
+    count: usize,
+    b: usize,
+)
+    requires { ⌜ (b ≤ plan .n) × (count ≤ plan .slots) × (count ≤ plan .n + 1) × Sums (now run) (plan .n) (plan .channels) (now floats) × Room plan (length (now floats)) (length (now indices)) (length (now pool)) × Below b (now indices) (plan .n + 1) count ⌝ }
+    ensures { λ r. ⌜ Mapped (λ i slot. putFacing slot (facing (task (now (run .entry)) plan) (part (now (floats .entry)) (plan .f) (plan .n + 1)) (getD (now (indices .entry)) (plan .n + 1 + i) 0) b)) (now (pool .entry)) (now (pool .exit)) count ⌝ }
+{
+    let w = plan.n + 1;
+    let mut j = 0;
+    while j < count {
+        let a = index_at(indices, w + j);
+        let x = face(run, floats, plan, a, b);
+        put_facing(pool, j, x);
+        j += 1;
+    }
+}

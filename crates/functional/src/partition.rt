@@ -1,0 +1,113 @@
+// The search from the lent areas as they come to the predecessors.
+ghost use mathlib.Core.Path.{_≡_};
+ghost use mathlib.Core.Bool.{true, cond};
+ghost use Prim.Native.Nat.{_+_, _*_, _/_, _≤_};
+ghost use lib.ListN.{length};
+ghost use Rattle.recurrence.specs.Room.{searchFits};
+ghost use Rattle.functional.specs.Functional.{rangeBox};
+ghost use Rattle.functional.specs.Partitioned.{fitsTask, Partitioned};
+ghost use Rattle.functional.specs.Held.{Room, task, Holds, Ran};
+use crate::Plan;
+use crate::ranges::range_box;
+use crate::slots::put_box;
+use crate::steps::search;
+use areas::clear_floats;
+use areas::clear_indices;
+use recurrence::search_fits;
+use sums::channel_sums;
+
+// The areas as the first step wants them: the sums, F(0), no predecessor, and the candidate 0 with the
+// whole range and no balls.
+fn begin(run: &[f64], floats: &mut [f64], indices: &mut [usize], pool: &mut [f64], plan: Plan)
+    requires { ⌜ Room plan (length (now floats)) (length (now indices)) (length (now pool)) × (plan .channels * plan .n ≤ length (now run)) × (1 ≤ plan .slots) × (plan .range ≡ rangeBox (task (now run) plan)) ⌝ }
+    ensures { λ r. ⌜ Holds (now (run .entry)) plan (now (floats .exit)) (now (indices .exit)) (now (pool .exit)) 1 (plan .m) ⌝ }
+{
+    let f = plan.f;
+    let w = plan.n + 1;
+    channel_sums(run, plan.n, plan.channels, floats);
+    clear_floats(floats, f, w);
+    floats[f] = -plan.penalty;
+    clear_indices(indices, 0, w);
+    indices[w] = 0;
+    indices[2 * w] = 0;
+    let range = plan.range;
+    put_box(pool, 0, range);
+}
+
+// All of it, before anything is cleared: whether the slots sufficed.
+fn search_all(
+    penalty: f64,
+    run: &[f64],
+    n: usize,
+    channels: usize,
+    m: usize,
+    floats: &mut [f64],
+    indices: &mut [usize],
+    pool: &mut [f64],
+) -> bool
+    requires { ⌜ (1 ≤ channels) × (channels ≤ 2) × (searchFits (length (now run)) n channels m (length (now floats)) (length (now indices)) ≡ true) ⌝ }
+    ensures { λ r. ⌜ Ran (record { run = now (run .entry); n = n; channels = channels; m = m; penalty = penalty }) (length (now (pool .entry)) / 200) (now (indices .exit)) r ⌝ }
+{
+    let slots = pool.len() / 200;
+    if slots < 1 {
+        return false;
+    }
+    let plan = Plan {
+        penalty,
+        n,
+        m,
+        channels,
+        f: channels * (2 * (n + 1)),
+        slots,
+        range: range_box(run, n, channels),
+    };
+    begin(run, floats, indices, pool, plan);
+    let mut born = [0.0; 192];
+    search(run, floats, indices, pool, &mut born, plan)
+}
+
+// From where on the indices are cleared: behind the predecessors, or all where there are none.
+fn kept_front(done: bool, w: usize) -> usize
+    ensures { λ r. ⌜ r ≡ cond done w 0 ⌝ }
+{
+    if done {
+        return w;
+    }
+    0
+}
+
+fn task_fits(run: usize, n: usize, channels: usize, m: usize, floats: usize, indices: usize) -> bool
+    ensures { λ r. ⌜ r ≡ fitsTask run n channels m floats indices ⌝ }
+{
+    if 1 <= channels {
+        if channels <= 2 {
+            return search_fits(run, n, channels, m, floats, indices);
+        }
+    }
+    false
+}
+
+// The predecessors of 0 to n by the functional search, at the front of the indices, and whether the
+// pool had slots enough; every other lent place is zero afterwards, and where the slots were too few
+// all of them. Nothing is changed where the search does not fit.
+pub fn partition_functional(
+    penalty: f64,
+    run: &[f64],
+    n: usize,
+    channels: usize,
+    m: usize,
+    floats: &mut [f64],
+    indices: &mut [usize],
+    pool: &mut [f64],
+) -> bool
+    ensures { λ r. ⌜ Partitioned (record { run = now (run .entry); n = n; channels = channels; m = m; penalty = penalty }) (now (floats .entry)) (now (floats .exit)) (now (indices .entry)) (now (indices .exit)) (now (pool .entry)) (now (pool .exit)) r ⌝ }
+{
+    if task_fits(run.len(), n, channels, m, floats.len(), indices.len()) {
+        let done = search_all(penalty, run, n, channels, m, floats, indices, pool);
+        clear_floats(floats, 0, floats.len());
+        clear_floats(pool, 0, pool.len());
+        clear_indices(indices, kept_front(done, n + 1), indices.len());
+        return done;
+    }
+    false
+}

@@ -1,0 +1,42 @@
+// The box of the channels' ranges.
+ghost use mathlib.Core.Path.{_≡_};
+ghost use Rattle.floats.specs.Numbers.{+0};
+ghost use Rattle.readings.specs.Channels.{channelOf};
+ghost use Rattle.sums.specs.Sums.{meanOf};
+ghost use Rattle.sums.specs.Extremes.{rangeOf, about};
+ghost use Rattle.functional.specs.Functional.{rangeBox};
+use candidate::Candidate;
+use readings::channel;
+use sums::Range;
+use sums::mean;
+use sums::range_about;
+use sums::range_of;
+
+// Cost: two turns for each reading of the channel.
+fn range_along(run: &[f64], n: usize, k: usize) -> Range
+    ensures { λ r. ⌜ r ≡ about (rangeOf (channelOf (now (run .entry)) n k)) (meanOf (channelOf (now (run .entry)) n k)) ⌝ }
+{
+    let signal = channel(run, n, k);
+    let range = range_of(signal);
+    let centre = mean(signal);
+    range_about(range, centre)
+}
+
+// The box that every segment mean lies in; 0 for a second channel that is not there. Minimum length
+// and penalty do not matter to it.
+pub(crate) fn range_box(run: &[f64], n: usize, channels: usize) -> Candidate
+    ensures { λ r. ⌜ r ≡ rangeBox (record { run = now (run .entry); n = n; channels = channels; m = 0; penalty = +0 }) ⌝ }
+{
+    let x = range_along(run, n, 0);
+    if channels == 1 {
+        return Candidate {
+            lo: [x.lo, 0.0],
+            hi: [x.hi, 0.0],
+        };
+    }
+    let y = range_along(run, n, 1);
+    Candidate {
+        lo: [x.lo, y.lo],
+        hi: [x.hi, y.hi],
+    }
+}
