@@ -40,3 +40,10 @@ pub fn opened_penalty(cost: CostFunction, penalty: Penalty, n: usize, signals: &
     let pelt = Pelt::new(cost, penalty).expect("a search");
     pelt.resolve_penalty(n, signals)
 }
+
+/// The predecessors of the functional search.
+pub fn opened_functional(signals: &[&[f64]], m: usize, penalty: f64) -> Vec<usize> {
+    let channels: Vec<Channel> = signals.iter().map(|s| Channel::new(s)).collect();
+    let pelt = Pelt::with_min_segment_len(CostFunction::L2, Penalty::Bic, m).expect("a search");
+    pelt.partition_functional(&channels, signals[0].len(), penalty)
+}
