@@ -14,7 +14,7 @@ use lib.Ieee.{Float, nan, lt, eq, le}
 use Rattle.floats.specs.Numbers.{_-ᶠ_, _<ᶠ_, _≤ᶠ_, +0}
 use Rattle.elementary.specs.Root.{sqrt}
 use Rattle.readings.specs.Parts.{tab, Frame}
-use Rattle.readings.proofs.PartLaws.{tab-length, tab-at, tab-more, frame-refl, frame-set}
+use Rattle.readings.proofs.PartLaws.{tab-same, tab-length, tab-at, tab-more, frame-refl, frame-set}
 use Rattle.candidate.specs.declared.Ball.{Ball}
 use Rattle.candidate.specs.Boxes.{at, ballOf}
 use Rattle.candidate.specs.Balls.{ballAt, narrowestTo, displace, loseInside, heldAt, secondNumber, meant, ballsAt, Rooted, hasRoom, areaWith, countWith, Lost}
@@ -22,11 +22,6 @@ use Rattle.losing.specs.Losing.{radiusAt, narrowestIn, putBall, copyLast, displ
 use Rattle.losing.proofs.LosingLaws.{room-fits, narrowest-within}
 
 -- ---- tables
-tab-same : {A : Type 0} (g h : ℕ → A) (n : ℕ) → ((j : ℕ) → j < n → g j ≡ h j) → tab g n ≡ tab h n
-unfolding tab
-tab-same g h zero e = refl
-tab-same {A} g h (suc n) e = ap₂ (λ (l : List A) (x : A). l ++ (x ∷ [])) (tab-same g h n (λ j l. e j (omega arith))) (e n (omega arith))
-
 tab-set : {A : Type 0} (g h : ℕ → A) (n i : ℕ) (v : A) → h i ≡ v → ((j : ℕ) → j < n → j ≢ i → h j ≡ g j) → tab h n ≡ set (tab g n) i v
 tab-set {A} g h n i v e f =
     ext-getD v (tab h n) (set (tab g n) i v) (tab-length h n ∙ sym (length-set (tab g n) i v ∙ tab-length g n))

@@ -26,7 +26,7 @@ fn nothing() -> Span
 }
 
 // The sides of a box, and the box with another side.
-pub fn first(candidate: Candidate) -> Span
+pub(crate) fn first(candidate: Candidate) -> Span
     ensures { λ r. ⌜ r ≡ spanAt candidate 0 ⌝ }
 {
     Span {
@@ -35,7 +35,7 @@ pub fn first(candidate: Candidate) -> Span
     }
 }
 
-pub fn second(candidate: Candidate) -> Span
+pub(crate) fn second(candidate: Candidate) -> Span
     ensures { λ r. ⌜ r ≡ spanAt candidate 1 ⌝ }
 {
     Span {
@@ -44,7 +44,7 @@ pub fn second(candidate: Candidate) -> Span
     }
 }
 
-pub fn with_first(mut candidate: Candidate, span: Span) -> Candidate
+pub(crate) fn with_first(mut candidate: Candidate, span: Span) -> Candidate
     ensures { λ r. ⌜ r ≡ withSpan 0 span candidate ⌝ }
 {
     candidate.lo[0] = span.lo;
@@ -52,7 +52,7 @@ pub fn with_first(mut candidate: Candidate, span: Span) -> Candidate
     candidate
 }
 
-pub fn with_second(mut candidate: Candidate, span: Span) -> Candidate
+pub(crate) fn with_second(mut candidate: Candidate, span: Span) -> Candidate
     ensures { λ r. ⌜ r ≡ withSpan 1 span candidate ⌝ }
 {
     candidate.lo[1] = span.lo;

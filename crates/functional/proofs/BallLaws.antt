@@ -1,8 +1,8 @@
 -- Laws of the balls of a candidate in an area of 192 floats: none, one more, and what they cut; and the same of the slots of a pool. Assumes nothing.
-use Prim.Native.Nat.{ℕ, zero, suc, _+_, _-_, _*_, _≤_, _<_}
+use Prim.Native.Nat.{ℕ, _+_, _-_, _*_, _≤_, _<_}
 use mathlib.Core.Bool.{true}
-use mathlib.Core.Path.{_≡_, refl, sym, ap, ap₂, _∙_, subst}
-use mathlib.Core.List.{List, [], _∷_, _++_}
+use mathlib.Core.Path.{_≡_, refl, sym, ap, _∙_, subst}
+use mathlib.Core.List.{List, []}
 use native.Mathlib.Omega.{arith}
 use native.Mathlib.Nat.{not-suc-le-zero}
 use native.Mathlib.Numerals.{add-one}
@@ -10,6 +10,7 @@ use borrow.Author.Tests.{le-leb}
 use lib.ListN.{length}
 use lib.Ieee.{Float}
 use Rattle.readings.specs.Parts.{tab}
+use Rattle.readings.proofs.PartLaws.{tab-same}
 use Rattle.candidate.specs.declared.Candidate.{Candidate}
 use Rattle.candidate.specs.declared.Ball.{Ball}
 use Rattle.candidate.specs.Balls.{heldAt, ballsAt, meant, loseInside, hasRoom, Lost}
@@ -52,11 +53,6 @@ pub balls-cut : {channels : ℕ} {area : List Float} {count : ℕ} {bs : List Ba
 balls-cut {channels} {area} {count} x k h = cut-in channels area 0 count x (room-here area 0 count (omega arith) (k .few)) (k .rooted) ∙ ap (λ (l : List Ball). cutLosing channels l x) (k .list)
 
 -- ---- areas that hold the same balls
-pub tab-same : {A : Type 0} (g h : ℕ → A) (n : ℕ) → ((j : ℕ) → j < n → g j ≡ h j) → tab g n ≡ tab h n
-unfolding tab
-tab-same g h zero e = refl
-tab-same {A} g h (suc n) e = ap₂ (λ (l : List A) (x : A). l ++ (x ∷ [])) (tab-same g h n (λ j l. e j (omega arith))) (e n (omega arith))
-
 pub balls-same : (channels : ℕ) (x y : List Float) (p q count : ℕ) → ((i : ℕ) → i < count → heldAt y q i ≡ heldAt x p i) → ballsAt channels y q count ≡ ballsAt channels x p count
 unfolding ballsAt
 balls-same channels x y p q count f = tab-same (λ i. meant channels (heldAt y q i)) (λ i. meant channels (heldAt x p i)) count (λ i h. ap (meant channels) (f i h))

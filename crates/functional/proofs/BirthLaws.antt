@@ -142,7 +142,7 @@ module _ (run : List Float) (q : Plan) (f x y z : List Float) (ix : List ℕ) (c
   sane-still s = record { each = λ j h. sane-at j h (s .each j h) }
 
 -- ---- together
-lived-long : (channels : ℕ) (x : List Float) (ix : List ℕ) (w count : ℕ) → length (lived channels x ix w count) ≡ count
+pub lived-long : (channels : ℕ) (x : List Float) (ix : List ℕ) (w count : ℕ) → length (lived channels x ix w count) ≡ count
 unfolding lived
 lived-long channels x ix w count = tab-length (livedAt channels x ix w) count
 

@@ -11,7 +11,7 @@ use lib.Seq.{getD-set-same, getD-set-other}
 use lib.ListN.{length, getD, set, length-set}
 use lib.Ieee.{Float}
 use Rattle.readings.specs.Parts.{tab, Frame}
-use Rattle.readings.proofs.PartLaws.{tab-at, tab-more, frame-refl, frame-set, frame-trans}
+use Rattle.readings.proofs.PartLaws.{tab-same, tab-at, tab-more, frame-refl, frame-set, frame-trans}
 use Rattle.candidate.specs.declared.Candidate.{Candidate}
 use Rattle.candidate.specs.declared.Ball.{Ball}
 use Rattle.candidate.specs.Boxes.{isDominated}
@@ -20,7 +20,7 @@ use Rattle.candidate.specs.Cuts.{cutIn}
 use Rattle.functional.specs.Functional.{Living, livingAt, cutBack, joinedBy}
 use Rattle.functional.specs.Held.{slotAt, boxAt, ballFloats, putBox, Put, Balled, Balls, livedAt, lived, BallsOf, Sane, putIndices, Stored, Settled, survivorsTo, Narrowed, Wide}
 use Rattle.functional.proofs.SlotLaws.{slot-long, slot-before, slot-after, box-put, balls-beside-box, ball-in-pool}
-use Rattle.functional.proofs.BallLaws.{tab-same, balls-kept, slot-cut}
+use Rattle.functional.proofs.BallLaws.{balls-kept, slot-cut}
 use Rattle.functional.proofs.BoxLaws.{box-by-numbers, cut-wide, box-wide}
 
 pub balled-here : (pool : List Float) (to j place count : ℕ) → to ≡ j → place ≡ 200 * j + 8 → count ≤ 64 → Balled pool pool to pool place count

@@ -4,7 +4,7 @@ use mathlib.Core.Bool.{Bool, true, false, cond, true≢false, false≢true}
 use mathlib.Core.Path.{_≡_, refl, sym, ap, _∙_}
 use mathlib.Core.List.{List, [], _∷_, _++_}
 use native.Mathlib.Omega.{arith}
-use borrow.Author.Tests.{le-leb, leb-true, eq-eqb, ne-eqb}
+use borrow.Author.Tests.{leb-true, eq-eqb, ne-eqb}
 use lib.Dec.{leb}
 use lib.Seq.{getD-set-same, getD-set-other}
 use lib.ListN.{length, getD, set, replicate, length-set}
@@ -15,8 +15,8 @@ use Rattle.readings.proofs.PartLaws.{part-above, store, frame-set}
 use Rattle.areas.specs.Cleared.{Cleared}
 use Rattle.areas.proofs.ClearedLaws.{cleared-part, cleared-whole, cleared-tail}
 use Rattle.sums.specs.declared.Range.{Range}
-use Rattle.sums.specs.EachChannel.{sumsFit, RanEach}
-use Rattle.sums.proofs.ChannelLaws.{sums-kept}
+use Rattle.sums.specs.EachChannel.{RanEach}
+use Rattle.sums.proofs.ChannelLaws.{fits, sums-kept}
 use Rattle.recurrence.specs.Room.{searchFits}
 use Rattle.recurrence.proofs.RoomLaws.{and-first, and-second, Series, Roomy, fits-room, split-floats}
 use Rattle.candidate.specs.declared.Candidate.{Candidate}
@@ -61,10 +61,6 @@ plan-room penalty run n k m lf li lp f slots range one two s r e g =
     }
 
 -- ---- how the areas begin
-sums-room : (q : Plan) (run lf li lp : ℕ) → Room q lf li lp → q .channels * q .n ≤ run → sumsFit run (q .n) (q .channels) lf ≡ true
-unfolding sumsFit
-sums-room q run lf li lp r h = rw (le-leb (q .channels) 8 (omega arith), le-leb (q .n) 4096 (r .short), le-leb (q .channels * q .n) run h, le-leb (q .channels * (2 * (q .n + 1))) lf (omega arith)) refl
-
 first-living : (channels : ℕ) (pool : List Float) (ix : List ℕ) (w : ℕ) (x : Candidate) → getD ix (w + 0) 0 ≡ 0 → getD ix (2 * w + 0) 0 ≡ 0 → boxAt (slotAt pool 0) ≡ x
     → lived channels pool ix w 1 ≡ record { tau = 0; box = x; losing = [] } ∷ []
 unfolding lived livedAt tab ballsAt
@@ -88,7 +84,7 @@ pub begun : (run : List Float) (q : Plan) (xs xs₁ xs₂ : List Float) (ix ix�
 unfolding stateAfter
 begun run q xs xs₁ xs₂ ix ix₁ pool pool₁ i j₁ j₂ v room h some range su fs is put e g e₁ e₂ =
     let w = q .n + 1 in
-    let fit = sums-room q (length run) (length xs) (length ix) (length pool) room h in
+    let fit = fits (length run) (q .n) (q .channels) (length xs) (omega arith) (room .short) h (omega arith) in
     let iy = set (set ix₁ j₁ 0) j₂ 0 in
     let long : length (set xs₂ i v) ≡ length xs = length-set xs₂ i v ∙ fs .frame .long ∙ su .frame fit .long in
     let long₁ : length ix₁ ≡ length ix = is .frame .long in

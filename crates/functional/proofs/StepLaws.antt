@@ -10,7 +10,7 @@ use lib.ListN.{length, getD, set, length-set}
 use lib.Ieee.{Float, nan}
 use Rattle.floats.specs.Numbers.{_+ᶠ_}
 use Rattle.readings.specs.Parts.{part, Frame}
-use Rattle.readings.proofs.PartLaws.{tab-at, tab-length, part-front, store, frame-refl, frame-set}
+use Rattle.readings.proofs.PartLaws.{tab-same, tab-at, tab-length, part-front, store, frame-refl, frame-set}
 use Rattle.sums.specs.EachChannel.{Sums}
 use Rattle.sums.proofs.ChannelLaws.{sums-kept}
 use Rattle.recurrence.specs.declared.Best.{Best}
@@ -21,7 +21,7 @@ use Rattle.recurrence.proofs.MinimumLaws.{scan-takes}
 use Rattle.functional.specs.declared.Plan.{Plan}
 use Rattle.functional.specs.Functional.{Task, Living, State, price, places, bestAt, livingAt, joinOf, livingAfter, stepOf, stateAfter, functional}
 use Rattle.functional.specs.Held.{Room, task, livedAt, lived, BallsOf, Sane, Below, Joins, taus, Holds, Stepped, Searched}
-use Rattle.functional.proofs.BallLaws.{tab-same}
+use Rattle.functional.proofs.BirthLaws.{lived-long}
 use Rattle.functional.proofs.SoundLaws.{places-length, places-at, placed-after}
 use Rattle.functional.proofs.PeakLaws.{peak-within, slots-too-few, slots-enough}
 
@@ -29,10 +29,6 @@ use Rattle.functional.proofs.PeakLaws.{peak-within, slots-too-few, slot
 taus-at : (ix : List ℕ) (w count j : ℕ) → j < count → getD (taus ix w count) j 0 ≡ getD ix (w + j) 0
 unfolding taus
 taus-at ix w count j h = tab-at (λ (i : ℕ). getD ix (w + i) 0) count j 0 h
-
-lived-length : (channels : ℕ) (pool : List Float) (ix : List ℕ) (w count : ℕ) → length (lived channels pool ix w count) ≡ count
-unfolding lived
-lived-length channels pool ix w count = tab-length (livedAt channels pool ix w) count
 
 lived-tau : (channels : ℕ) (pool : List Float) (ix : List ℕ) (w count j : ℕ) → j < count → livingAt (lived channels pool ix w count) j .tau ≡ getD ix (w + j) 0
 unfolding lived livedAt
@@ -45,7 +41,7 @@ taus-length ix w count = tab-length (λ (i : ℕ). getD ix (w + i) 0) count
 taus-are : (channels : ℕ) (pool : List Float) (ix : List ℕ) (w count : ℕ) → taus ix w count ≡ places (lived channels pool ix w count)
 taus-are channels pool ix w count =
     let l = lived channels pool ix w count in
-    ext-getD 0 (taus ix w count) (places l) (taus-length ix w count ∙ sym (places-length l ∙ lived-length channels pool ix w count))
+    ext-getD 0 (taus ix w count) (places l) (taus-length ix w count ∙ sym (places-length l ∙ lived-long channels pool ix w count))
     (λ j h. let g : j < count = rw (taus-length ix w count) at h in taus-at ix w count j g ∙ sym (places-at l j ∙ lived-tau channels pool ix w count j g))
 
 -- one candidate more in the scan
@@ -67,7 +63,7 @@ lives-below {run} {q} {xs} {ix} {pool} {count} {t} x h l g =
     at : (j : ℕ) → j < count → livingAt (lived (q .channels) pool ix (q .n + 1) count) j .tau < x
     at j i =
         let s = stateAfter (task run q) (t - q .m) .living in
-        let few : j < length (places s) = rw (places-length s, ← h .living, lived-length (q .channels) pool ix (q .n + 1) count) i in
+        let few : j < length (places s) = rw (places-length s, ← h .living, lived-long (q .channels) pool ix (q .n + 1) count) i in
         let e : q .m + (t - q .m) ≡ t = omega (arith, h .from) in
         rw (h .living, ← places-at s j) (small (rw e at (all-at j (placed-after (task run q) (t - q .m)) few)))
 
@@ -101,7 +97,7 @@ unfolding bestAt
 best-is {run} {q} {xs} {ix} {pool} {count} {t} best h e =
     let s = stateAfter (task run q) (t - q .m) in
     let l : taus ix (q .n + 1) count ≡ places (s .living) = taus-are (q .channels) pool ix (q .n + 1) count ∙ ap places (h .living) in
-    let n : count ≡ length (s .living) = sym (lived-length (q .channels) pool ix (q .n + 1) count) ∙ ap length (h .living) in
+    let n : count ≡ length (s .living) = sym (lived-long (q .channels) pool ix (q .n + 1) count) ∙ ap length (h .living) in
     e ∙ (rw (h .f, l, n) refl)
 
 -- ---- what a step leaves
@@ -179,7 +175,7 @@ module _ (run : List Float) (q : Plan) (xs : List Float) (ix : List ℕ) (pool :
   unfolding livingAfter
   stepped-young l =
       let same : following ≡ lived (q .channels) pool marked (q .n + 1) count = rw (lt-leb (q .m) (t + 1 - q .m) l) refl in
-      stepped marked pool count (frame-refl marked (q .n + 1) (2 * (q .n + 1))) refl (sym (ap length same ∙ lived-length (q .channels) pool marked (q .n + 1) count)) (λ m. sym same)
+      stepped marked pool count (frame-refl marked (q .n + 1) (2 * (q .n + 1))) refl (sym (ap length same ∙ lived-long (q .channels) pool marked (q .n + 1) count)) (λ m. sym same)
       (λ m. sane-kept ix t (best .tau) (omega arith) (h .sane)) (omega arith)
 
   -- where b joins

@@ -19,7 +19,7 @@ pub use partition::partition_functional;
 
 // What two candidates a < b mean to each other: a ball about the mean between them, wider by the
 // slack where a may still win, narrower by it where b loses.
-pub struct Facing {
+struct Facing {
     pub cx: f64,
     pub cy: f64,
     pub outer: f64,
@@ -28,7 +28,7 @@ pub struct Facing {
 
 // What is searched, and where it stands: F at `f` of the floats, after the sums. Of the indices the
 // first n + 1 are the predecessors, the next the living candidates, the next their counts of balls.
-pub struct Plan {
+struct Plan {
     pub penalty: f64,
     pub n: usize,
     pub m: usize,

@@ -1,6 +1,6 @@
 -- Laws of a step over the lent areas: it makes the next state of the recurrence and leaves the areas ready for the next t; and how the areas begin and end. Assumes nothing.
 use Prim.Native.Nat.{ℕ, zero, suc, _+_, _-_, _*_, _≤_, _<_}
-use mathlib.Core.Bool.{Bool, true}
+use mathlib.Core.Bool.{Bool}
 use mathlib.Core.Path.{_≡_, refl, sym, ap, _∙_, subst}
 use mathlib.Core.List.{List, [], _∷_, _++_}
 use native.Mathlib.Omega.{arith}
@@ -10,11 +10,10 @@ use lib.Ieee.{Float, neg}
 use Rattle.floats.specs.Numbers.{_+ᶠ_, +0}
 use Rattle.readings.specs.Parts.{part, tab}
 use Rattle.readings.proofs.PartLaws.{part-front, part-length, part-below, part-above, push, store, frame-refl, frame-set}
-use borrow.Author.Tests.{le-leb}
 use Rattle.areas.specs.Cleared.{Cleared}
 use Rattle.areas.proofs.ClearedLaws.{cleared-part}
-use Rattle.sums.specs.EachChannel.{sumsFit, RanEach}
-use Rattle.sums.proofs.ChannelLaws.{sums-kept}
+use Rattle.sums.specs.EachChannel.{RanEach}
+use Rattle.sums.proofs.ChannelLaws.{fits, sums-kept}
 use Rattle.recurrence.specs.declared.Best.{Best}
 use Rattle.recurrence.specs.Minimum.{keptTo}
 use Rattle.recurrence.proofs.All.{All, all-at, all-last, all-map, all-from}
@@ -104,10 +103,6 @@ pub holds-at : {run : List Float} {q : Plan} {xs : List Float} {ix : List ℕ} {
 holds-at {run} {q} {xs} {ix} {count} {t} {u} e h = subst (λ (k : ℕ). Holds run q xs ix count k) e h
 
 -- ---- how the areas begin
-sums-room : (q : Plan) (run lf li : ℕ) → Room q lf li → q .channels * q .n ≤ run → sumsFit run (q .n) (q .channels) lf ≡ true
-unfolding sumsFit
-sums-room q run lf li r h = rw (le-leb (q .channels) 8 (r .few), le-leb (q .n) 4096 (r .short), le-leb (q .channels * q .n) run h, le-leb (q .channels * (2 * (q .n + 1))) lf (omega arith))
-
 empty-part : (l : List ℕ) (b : ℕ) (rest : List ℕ) → part l b 0 ++ rest ≡ rest
 unfolding part
 empty-part l b rest = refl
@@ -117,7 +112,7 @@ pub begun : (run : List Float) (q : Plan) (xs xs₁ xs₂ : List Float) (ix ix�
     → Holds run q (set xs₂ i v) (set ix₁ j z) 1 (q .m)
 unfolding stateAfter view
 begun run q xs xs₁ xs₂ ix ix₁ i j z v room h su fs is e g o n =
-    let fit = sums-room q (length run) (length xs) (length ix) room h in
+    let fit = fits (length run) (q .n) (q .channels) (length xs) (room .few) (room .short) h (omega arith) in
     let long₁ : length xs₁ ≡ length xs = su .frame fit .long in
     let long₂ : length (set xs₂ i v) ≡ length xs = length-set xs₂ i v ∙ fs .frame .long ∙ long₁ in
     let long : length (set ix₁ j z) ≡ length ix = length-set ix₁ j z ∙ is .frame .long in

@@ -16,7 +16,7 @@ pub use pruned::partition_pruned;
 // What is searched, and where it stands: F at `f` of the floats, the parts at `p`, the candidates at
 // `c` of the indices. The predecessors stand at the front of the indices, the sums at that of the
 // floats.
-pub struct Plan {
+struct Plan {
     pub cost: CostFunction,
     pub penalty: f64,
     pub n: usize,

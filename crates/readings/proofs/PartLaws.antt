@@ -1,6 +1,6 @@
 -- Laws of parts, tables and frames of a flat area: what a read, a store and a loop of stores does to them. A law takes the index as the code has it, with an equation. Assumes nothing.
 use Prim.Native.Nat.{ℕ, zero, suc, _+_, _-_, _≤_, _<_}
-use mathlib.Core.Path.{_≡_, refl, sym, ap, _∙_}
+use mathlib.Core.Path.{_≡_, refl, sym, ap, ap₂, _∙_}
 use mathlib.Core.List.{List, [], _∷_, _++_}
 use native.Mathlib.Nat.{suc-add, le-of-suc-le-suc, not-suc-le-zero, eq-or-lt-of-le}
 use native.Mathlib.Numerals.{add-one}
@@ -101,6 +101,12 @@ module _ {A : Type 0} where
   pub tab-more : (g : ℕ → A) (j : ℕ) → tab g (j + 1) ≡ tab g j ++ (g j ∷ [])
   unfolding tab
   tab-more g j = rw add-one refl
+
+  -- tables of the same values
+  pub tab-same : (g h : ℕ → A) (n : ℕ) → ((j : ℕ) → j < n → g j ≡ h j) → tab g n ≡ tab h n
+  unfolding tab
+  tab-same g h zero e = refl
+  tab-same g h (suc n) e = ap₂ (λ (l : List A) (x : A). l ++ (x ∷ [])) (tab-same g h n (λ j l. e j (omega arith))) (e n (omega arith))
 
   pub frame-wide : {x y : List A} {b n : ℕ} (b′ n′ : ℕ) → Frame x y b n → b′ ≤ b → b + n ≤ b′ + n′ → Frame x y b′ n′
   frame-wide {x} {y} {b} {n} b′ n′ f l h =

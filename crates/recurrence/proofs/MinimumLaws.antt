@@ -18,18 +18,6 @@ pub scan-takes : (takesPart : ℕ → Bool) (total : ℕ → Float) (cs : List �
 unfolding scanTo
 scan-takes takesPart total cs j e = rw (add-one, e)
 
-pub scan-passes : (takesPart : ℕ → Bool) (total : ℕ → Float) (cs : List ℕ) (j : ℕ) → takesPart (getD cs j 0) ≡ false → scanTo takesPart total cs (j + 1) ≡ scanTo takesPart total cs j
-unfolding scanTo
-scan-passes takesPart total cs j e = rw (add-one, e)
-
-pub kept-stays : (stays : ℕ → Bool) (cs : List ℕ) (j : ℕ) → stays (getD cs j 0) ≡ true → keptTo stays cs (j + 1) ≡ keptTo stays cs j ++ (getD cs j 0 ∷ [])
-unfolding keptTo
-kept-stays stays cs j e = rw (add-one, e)
-
-pub kept-goes : (stays : ℕ → Bool) (cs : List ℕ) (j : ℕ) → stays (getD cs j 0) ≡ false → keptTo stays cs (j + 1) ≡ keptTo stays cs j
-unfolding keptTo
-kept-goes stays cs j e = rw (add-one, e)
-
 -- ---- what holds of 0 and of each candidate that takes part holds of the best
 better-is : (P : ℕ → Type 0) (best : Best) (total : Float) (tau : ℕ) → P (best .tau) → P tau → P (betterOf best total tau .tau)
 unfolding betterOf

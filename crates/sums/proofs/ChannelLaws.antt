@@ -42,6 +42,10 @@ fit run n k size e = go (leb k 8) (leb n 4096) (leb (k * n) run) (leb (k * (2 * 
     go true false c d p q r s e = absurd (false≢true e)
     go false b c d p q r s e = absurd (false≢true e)
 
+pub fits : (run n k size : ℕ) → k ≤ 8 → n ≤ 4096 → k * n ≤ run → k * (2 * (n + 1)) ≤ size → sumsFit run n k size ≡ true
+unfolding sumsFit
+fits run n k size h l m r = rw (le-leb k 8 h, le-leb n 4096 l, le-leb (k * n) run m, le-leb (k * (2 * (n + 1))) size r)
+
 pub sums-small : (n k : ℕ) → k ≤ 8 → n ≤ 4096 → k * (2 * (n + 1)) ≤ 65552
 sums-small n k h l = mul-le-mul {n₁ = k} {m₁ = 2 * (n + 1)} {n₂ = 8} {m₂ = 8194} h (omega arith)
 
