@@ -1,0 +1,3 @@
+pub mod FindingLaws
+pub mod CutLaws
+pub mod Outcomes

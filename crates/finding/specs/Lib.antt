@@ -1,0 +1,4 @@
+pub mod Search
+pub mod Left
+pub mod Demand
+pub mod Held

@@ -1,0 +1,170 @@
+// Changes in readings: the search behind a report, over the flat readings of one channel or more.
+//
+// Every call ends with the cuts or a numbered refusal, and asks nothing of its caller. `specs/Detected`
+// says what is answered and what every lent area holds afterwards, by the refusals of crate `admission`
+// and the cuts of crate `finding`. That one outcome meets it, and what demand 2 says of the cuts, is
+// proved in `finding/proofs` (`Outcomes`, `CutLaws`).
+use costs::CostFunction;
+use costs::Penalty;
+pub use finding::Searched;
+use finding::find_cuts;
+ghost use mathlib.Core.Path.{_≡_};
+ghost use mathlib.Core.Bool.{true, false};
+ghost use mathlib.Core.List.{[], _∷_};
+ghost use lib.ListN.{length};
+ghost use Rattle.pelt.specs.Detected.{newOf, withMinSegmentLen, Detected};
+
+// A search: how a segment is priced, the penalty of a change, and the least length of a piece. The
+// settings are checked when they are used.
+pub struct Pelt {
+    pub cost: CostFunction,
+    pub penalty: Penalty,
+    pub min_segment_len: usize,
+}
+
+impl Pelt {
+    // The most channels on which the L2 cost takes the functional search.
+    pub const FUNCTIONAL_MAX_CHANNELS: usize = finding::FUNCTIONAL_MAX_CHANNELS;
+
+    // A search for pieces of 2 readings or more.
+    pub fn new(cost: CostFunction, penalty: Penalty) -> Pelt
+        ensures { λ r. ⌜ r ≡ newOf cost penalty ⌝ }
+    {
+        Pelt {
+            cost,
+            penalty,
+            min_segment_len: 2,
+        }
+    }
+
+    pub fn with_min_segment_len(
+        cost: CostFunction,
+        penalty: Penalty,
+        min_segment_len: usize,
+    ) -> Pelt
+        ensures { λ r. ⌜ r ≡ withMinSegmentLen cost penalty «min_segment_len» ⌝ }
+    {
+        Pelt {
+            cost,
+            penalty,
+            min_segment_len,
+        }
+    }
+
+    // The cuts of one channel, lowest first, in the front of `cuts`; the rest of it is left. A reading
+    // that is not finite is searched with the others. Afterwards the work areas `floats`, `indices`
+    // and `pool` are zero; a refusal other than 9 changes nothing. Room: n/2 cuts, 4(n + 1) floats,
+    // 3(n + 1) indices; for L2 a pool of 200 floats for each candidate that lives at once.
+    pub fn detect(
+        self,
+        readings: &[f64],
+        cuts: &mut [usize],
+        floats: &mut [f64],
+        indices: &mut [usize],
+        pool: &mut [f64],
+    ) -> Searched
+        ensures { λ r. ⌜ Detected false self (now (readings .entry)) (length (now (readings .entry)) ∷ []) (now (cuts .entry)) (now (cuts .exit)) (now (floats .entry)) (now (floats .exit)) (now (indices .entry)) (now (indices .exit)) (now (pool .entry)) (now (pool .exit)) r ⌝ }
+    {
+        let lengths = [readings.len()];
+        let cost = self.cost;
+        let penalty = self.penalty;
+        find_cuts(
+            cost,
+            penalty,
+            self.min_segment_len,
+            false,
+            readings,
+            &lengths,
+            cuts,
+            floats,
+            indices,
+            pool,
+        )
+    }
+
+    // The same of one channel or more, which stand one after the other in `readings` and have these
+    // lengths. Room: n/2 cuts, (2k + 2)(n + 1) floats and 3(n + 1) indices for k channels of n; a pool
+    // for L2 on one or two of them.
+    pub fn detect_multi(
+        self,
+        readings: &[f64],
+        lengths: &[usize],
+        cuts: &mut [usize],
+        floats: &mut [f64],
+        indices: &mut [usize],
+        pool: &mut [f64],
+    ) -> Searched
+        ensures { λ r. ⌜ Detected false self (now (readings .entry)) (now (lengths .entry)) (now (cuts .entry)) (now (cuts .exit)) (now (floats .entry)) (now (floats .exit)) (now (indices .entry)) (now (indices .exit)) (now (pool .entry)) (now (pool .exit)) r ⌝ }
+    {
+        let cost = self.cost;
+        let penalty = self.penalty;
+        find_cuts(
+            cost,
+            penalty,
+            self.min_segment_len,
+            false,
+            readings,
+            lengths,
+            cuts,
+            floats,
+            indices,
+            pool,
+        )
+    }
+
+    // `detect`, but a reading that is not finite is refused, with its place.
+    pub fn detect_strict(
+        self,
+        readings: &[f64],
+        cuts: &mut [usize],
+        floats: &mut [f64],
+        indices: &mut [usize],
+        pool: &mut [f64],
+    ) -> Searched
+        ensures { λ r. ⌜ Detected true self (now (readings .entry)) (length (now (readings .entry)) ∷ []) (now (cuts .entry)) (now (cuts .exit)) (now (floats .entry)) (now (floats .exit)) (now (indices .entry)) (now (indices .exit)) (now (pool .entry)) (now (pool .exit)) r ⌝ }
+    {
+        let lengths = [readings.len()];
+        let cost = self.cost;
+        let penalty = self.penalty;
+        find_cuts(
+            cost,
+            penalty,
+            self.min_segment_len,
+            true,
+            readings,
+            &lengths,
+            cuts,
+            floats,
+            indices,
+            pool,
+        )
+    }
+
+    // `detect_multi`, but a reading that is not finite is refused, with its place.
+    pub fn detect_multi_strict(
+        self,
+        readings: &[f64],
+        lengths: &[usize],
+        cuts: &mut [usize],
+        floats: &mut [f64],
+        indices: &mut [usize],
+        pool: &mut [f64],
+    ) -> Searched
+        ensures { λ r. ⌜ Detected true self (now (readings .entry)) (now (lengths .entry)) (now (cuts .entry)) (now (cuts .exit)) (now (floats .entry)) (now (floats .exit)) (now (indices .entry)) (now (indices .exit)) (now (pool .entry)) (now (pool .exit)) r ⌝ }
+    {
+        let cost = self.cost;
+        let penalty = self.penalty;
+        find_cuts(
+            cost,
+            penalty,
+            self.min_segment_len,
+            true,
+            readings,
+            lengths,
+            cuts,
+            floats,
+            indices,
+            pool,
+        )
+    }
+}
