@@ -5,7 +5,7 @@ use crate::inputs::Random;
 use crate::series::{SeriesKind, SERIES_KINDS};
 
 /// Series made for their differences.
-const DIFFERENCE_KINDS: [SeriesKind; 3] = [even_steps, near_ties, near_floor];
+pub const DIFFERENCE_KINDS: [SeriesKind; 3] = [even_steps, near_ties, near_floor];
 
 /// A centre and a scale: ordinary values, values so small that their squares are subnormal, and values
 /// so large that their squares are infinite.
@@ -59,7 +59,7 @@ impl Run {
 /// The same with quiet NaNs, of every sign and payload. What the Rust's `f64::min` and `f64::max` make of
 /// a signalling one is open, and on some platforms it is NaN where they pass over a quiet one; document
 /// 01 counts NaNs as one value.
-fn quiet(readings: Vec<f64>) -> Vec<f64> {
+pub fn quiet(readings: Vec<f64>) -> Vec<f64> {
     let quieted = |x: f64| match x.is_nan() {
         true => f64::from_bits(x.to_bits() | 1 << 51),
         false => x,
