@@ -3,18 +3,14 @@
 
 use crate::calls::{Call, Lent, Settings, SLOT};
 use crate::inputs::Random;
-use crate::runs::{quiet, DIFFERENCE_KINDS};
-use crate::series::{SeriesKind, SERIES_KINDS};
+use crate::runs::{kinds, quiet, SIZES};
+use crate::series::fraction;
 use std::rc::Rc;
 
 const NAN: f64 = f64::NAN;
 const INFINITY: f64 = f64::INFINITY;
 /// The floats of a pool that the replay has room for.
 const LARGEST_POOL: usize = 64000;
-
-/// A centre and a scale: ordinary values, values so small that their squares are subnormal, and values
-/// so large that their squares are infinite.
-const SIZES: [(f64, f64); 3] = [(2.0, 1.0), (0.0, 1e-155), (0.0, 1e200)];
 
 /// Custom penalties in units of a squared scale, from the smallest to the largest.
 const PENALTIES: [f64; 12] = [
@@ -44,7 +40,11 @@ impl Run {
         let n = made.first().map_or(0, Vec::len);
         let channels = made.len();
         let readings = Rc::new(quiet(made.concat()));
-        Run { readings, n, channels }
+        Run {
+            readings,
+            n,
+            channels,
+        }
     }
 
     fn lengths(&self) -> Vec<u64> {
@@ -95,15 +95,31 @@ fn pick<T: Copy>(random: &mut Random, values: &[T]) -> T {
 }
 
 fn l2(penalty: f64) -> Settings {
-    Settings { normal: false, custom: Some(penalty), given: None }
+    Settings {
+        normal: false,
+        custom: Some(penalty),
+        given: None,
+    }
 }
 
 fn normal(penalty: f64) -> Settings {
-    Settings { normal: true, custom: Some(penalty), given: None }
+    Settings {
+        normal: true,
+        custom: Some(penalty),
+        given: None,
+    }
 }
 
-const L2_BIC: Settings = Settings { normal: false, custom: None, given: None };
-const NORMAL_BIC: Settings = Settings { normal: true, custom: None, given: None };
+const L2_BIC: Settings = Settings {
+    normal: false,
+    custom: None,
+    given: None,
+};
+const NORMAL_BIC: Settings = Settings {
+    normal: true,
+    custom: None,
+    given: None,
+};
 
 fn at_least(settings: Settings, m: u64) -> Settings {
     let given = Some(m);
@@ -113,7 +129,11 @@ fn at_least(settings: Settings, m: u64) -> Settings {
 /// Any cost, penalty and minimum length for n readings of this scale.
 fn any_settings(random: &mut Random, n: usize, scale: f64) -> Settings {
     let square = scale * scale;
-    let unit = if square.is_finite() && square > 0.0 { square } else { 1.0 };
+    let unit = if square.is_finite() && square > 0.0 {
+        square
+    } else {
+        1.0
+    };
     let value = (pick(random, &PENALTIES) * unit).clamp(5e-324, f64::MAX);
     let lengths = [2, 2, 3, 4, 5, n as u64 / 2, n as u64 / 2 + 1].map(|m: u64| m.max(2));
     Settings {
@@ -126,18 +146,29 @@ fn any_settings(random: &mut Random, n: usize, scale: f64) -> Settings {
 /// All series of this length over these values.
 fn all_series(values: &[f64], length: usize) -> Vec<Vec<f64>> {
     let count = values.len().pow(length as u32);
-    let value = |at: usize, place: usize| values[at / values.len().pow(place as u32) % values.len()];
+    let value =
+        |at: usize, place: usize| values[at / values.len().pow(place as u32) % values.len()];
     let series = |at| (0..length).map(|place| value(at, place)).collect();
     (0..count).map(series).collect()
 }
 
 /// Each series of so many channels of n readings over these values, every `step`th of them.
-fn exhaustive(values: &[f64], n: usize, channels: usize, step: usize, settings: &[Settings]) -> Vec<Call> {
+fn exhaustive(
+    values: &[f64],
+    n: usize,
+    channels: usize,
+    step: usize,
+    settings: &[Settings],
+) -> Vec<Call> {
     let mut calls = Vec::new();
     let all = all_series(values, n * channels).into_iter().step_by(step);
     for (at, readings) in all.enumerate() {
         let readings = Rc::new(readings);
-        let run = Run { readings, n, channels };
+        let run = Run {
+            readings,
+            n,
+            channels,
+        };
         for (place, &setting) in settings.iter().enumerate() {
             let mut call = run.call(setting);
             call.multi = channels > 1 || (at + place) % 2 == 0;
@@ -165,7 +196,13 @@ fn short_series() -> Vec<Call> {
     }
     for n in 4..7 {
         let values = [0.0, 1e200, -1e200];
-        calls.extend(exhaustive(&values, n, 1, 1, &[l2(1e300), L2_BIC, NORMAL_BIC]));
+        calls.extend(exhaustive(
+            &values,
+            n,
+            1,
+            1,
+            &[l2(1e300), L2_BIC, NORMAL_BIC],
+        ));
     }
     calls.extend(exhaustive(&[0.0, 4.0], 4, 2, 1, &four));
     calls.extend(exhaustive(&[0.0, 1.0, NAN, INFINITY], 4, 2, 131, &four));
@@ -177,8 +214,7 @@ fn short_series() -> Vec<Call> {
 /// A run of each kind and size with each number of channels, and any settings.
 fn of_each_kind(random: &mut Random) -> Vec<Call> {
     let mut calls = Vec::new();
-    let kinds: Vec<SeriesKind> = [&SERIES_KINDS[..], &DIFFERENCE_KINDS[..]].concat();
-    for kind in kinds {
+    for kind in kinds() {
         for (centre, scale) in SIZES {
             for channels in 1..=8 {
                 let most = if channels < 3 { 70 } else { 24 };
@@ -195,15 +231,12 @@ fn of_each_kind(random: &mut Random) -> Vec<Call> {
     calls
 }
 
-/// From 0 up to 1.
-fn fraction(random: &mut Random) -> f64 {
-    (random.next() >> 11) as f64 / (1u64 << 53) as f64
-}
-
 /// Pieces at different levels, with noise; every channel changes at the same places, some of them by
 /// nothing.
 fn stepped(random: &mut Random, n: usize, channels: usize, pieces: usize, noise: f64) -> Run {
-    let mut starts: Vec<usize> = (1..pieces).map(|_| random.below(n as u64) as usize).collect();
+    let mut starts: Vec<usize> = (1..pieces)
+        .map(|_| random.below(n as u64) as usize)
+        .collect();
     starts.sort_unstable();
     let mut made = Vec::new();
     for _ in 0..channels {
@@ -295,7 +328,14 @@ fn minimum_lengths(random: &mut Random) -> Vec<Call> {
         for n in [0, 1, 3, 4, 5, 6, 9, 16] {
             let run = stepped_or_empty(random, n, channels);
             let half = n as u64 / 2;
-            let large = [1 << 62, (1 << 63) - 1, 1 << 63, (1 << 63) + 2, u64::MAX - 1, u64::MAX];
+            let large = [
+                1 << 62,
+                (1 << 63) - 1,
+                1 << 63,
+                (1 << 63) + 2,
+                u64::MAX - 1,
+                u64::MAX,
+            ];
             let small = [0, 1, 2, 3, 4, half, half + 1, n as u64, 4096];
             for m in small.into_iter().chain(large) {
                 let settings = pick(random, &[l2(1.0), L2_BIC, normal(1.0), NORMAL_BIC]);
@@ -317,7 +357,17 @@ fn stepped_or_empty(random: &mut Random, n: usize, channels: usize) -> Run {
 
 /// Custom penalties that are refused, and the smallest and largest that are not.
 fn penalties(random: &mut Random) -> Vec<Call> {
-    let refused = [NAN, -NAN, INFINITY, -INFINITY, 0.0, -0.0, -5e-324, -1.0, -f64::MAX];
+    let refused = [
+        NAN,
+        -NAN,
+        INFINITY,
+        -INFINITY,
+        0.0,
+        -0.0,
+        -5e-324,
+        -1.0,
+        -f64::MAX,
+    ];
     let accepted = [5e-324, f64::MIN_POSITIVE, f64::MAX];
     let mut calls = Vec::new();
     for channels in [1, 2, 3, 8] {
@@ -394,13 +444,28 @@ fn rooms(random: &mut Random) -> Vec<Call> {
                 let lent = call.lent;
                 let rooms = [
                     lent,
-                    Lent { cuts: lent.cuts.saturating_sub(1), ..lent },
-                    Lent { floats: lent.floats - 1, ..lent },
-                    Lent { indices: lent.indices - 1, ..lent },
-                    Lent { floats: 0, ..longer(random, lent) },
+                    Lent {
+                        cuts: lent.cuts.saturating_sub(1),
+                        ..lent
+                    },
+                    Lent {
+                        floats: lent.floats - 1,
+                        ..lent
+                    },
+                    Lent {
+                        indices: lent.indices - 1,
+                        ..lent
+                    },
+                    Lent {
+                        floats: 0,
+                        ..longer(random, lent)
+                    },
                     longer(random, lent),
                 ];
-                calls.extend(rooms.map(|lent| Call { lent, ..call.clone() }));
+                calls.extend(rooms.map(|lent| Call {
+                    lent,
+                    ..call.clone()
+                }));
             }
         }
     }
@@ -419,7 +484,10 @@ fn gaps(random: &mut Random) -> Vec<Call> {
                 let last = readings.len() - 1;
                 readings[last] = NAN;
             }
-            let run = Run { readings: Rc::new(readings), ..whole };
+            let run = Run {
+                readings: Rc::new(readings),
+                ..whole
+            };
             for function in 0..4 {
                 let mut call = run.call(pick(random, &[l2(1.0), L2_BIC, NORMAL_BIC]));
                 call.multi = function % 2 == 1;
@@ -450,12 +518,19 @@ fn several_at_once(readings: Vec<f64>, lists: &[Vec<u64>], most: usize) -> Vec<C
                 0 => full,
                 1 => Lent { pool: 0, ..full },
                 2 => Lent { cuts: 1, ..full },
-                3 => Lent { floats: 3, pool: 0, ..full },
+                3 => Lent {
+                    floats: 3,
+                    pool: 0,
+                    ..full
+                },
                 4 => Lent { indices: 2, ..full },
                 _ => Lent::exactly(0, 0, 0),
             };
             if lengths.len() == 1 {
-                calls.push(Call { multi: false, ..call.clone() });
+                calls.push(Call {
+                    multi: false,
+                    ..call.clone()
+                });
             }
             calls.push(call);
         }
@@ -495,16 +570,21 @@ fn around_peak(call: Call) -> Vec<Call> {
         return Vec::new();
     };
     let floats = [peak * SLOT - 1, peak * SLOT, peak * SLOT + SLOT - 1];
-    let lent = |pool: usize| Lent { pool: pool.min(LARGEST_POOL), ..call.lent };
+    let lent = |pool: usize| Lent {
+        pool: pool.min(LARGEST_POOL),
+        ..call.lent
+    };
     floats
-        .map(|pool| Call { lent: lent(pool), ..call.clone() })
+        .map(|pool| Call {
+            lent: lent(pool),
+            ..call.clone()
+        })
         .to_vec()
 }
 
 fn pools(random: &mut Random) -> Vec<Call> {
     let mut calls = Vec::new();
-    let kinds: Vec<SeriesKind> = [&SERIES_KINDS[..], &DIFFERENCE_KINDS[..]].concat();
-    for (at, kind) in kinds.into_iter().enumerate() {
+    for (at, kind) in kinds().into_iter().enumerate() {
         for channels in 1..=2 {
             for (centre, scale) in SIZES {
                 let n = 4 + random.below(50) as usize;
@@ -532,7 +612,10 @@ fn positive(settings: Settings) -> Settings {
 fn with_slots(call: &Call, slots: usize) -> Call {
     let pool = slots * SLOT;
     let lent = Lent { pool, ..call.lent };
-    Call { lent, ..call.clone() }
+    Call {
+        lent,
+        ..call.clone()
+    }
 }
 
 /// Ramps with a high penalty, in which candidates lose inside more than 64 balls.
@@ -566,7 +649,13 @@ fn balls_without_radius(random: &mut Random) -> Vec<Call> {
             }
         }
         for last in [295, 270, 200] {
-            let reading = |i: u32| if i < last { f64::from(i) * 1e150 } else { 3e154 };
+            let reading = |i: u32| {
+                if i < last {
+                    f64::from(i) * 1e150
+                } else {
+                    3e154
+                }
+            };
             let run = Run::new(vec![(0..300).map(reading).collect(); channels]);
             for penalty in [1e306, 1e305] {
                 calls.extend(around_peak(run.call(l2(penalty))));
@@ -579,7 +668,13 @@ fn balls_without_radius(random: &mut Random) -> Vec<Call> {
 /// The longest channels, on 1, 2, 3 and 8 of them.
 fn longest(random: &mut Random) -> Vec<Call> {
     let mut calls = Vec::new();
-    for (channels, pieces, noise) in [(1, 1, 2.0), (1, 40, 3.0), (2, 30, 3.0), (3, 60, 3.0), (8, 90, 3.0)] {
+    for (channels, pieces, noise) in [
+        (1, 1, 2.0),
+        (1, 40, 3.0),
+        (2, 30, 3.0),
+        (3, 60, 3.0),
+        (8, 90, 3.0),
+    ] {
         let run = stepped(random, 4096, channels, pieces, noise);
         let functional = [L2_BIC, l2(30.0), at_least(l2(1e-9), 3)];
         for settings in functional {
@@ -590,9 +685,27 @@ fn longest(random: &mut Random) -> Vec<Call> {
         calls.push(run.any_call(random, NORMAL_BIC));
         let call = run.call(l2(30.0));
         let lent = call.lent;
-        calls.push(Call { lent: Lent { cuts: lent.cuts - 1, ..lent }, ..call.clone() });
-        calls.push(Call { lent: Lent { floats: lent.floats - 1, ..lent }, ..call.clone() });
-        calls.push(Call { lent: Lent { indices: lent.indices - 1, ..lent }, ..call });
+        calls.push(Call {
+            lent: Lent {
+                cuts: lent.cuts - 1,
+                ..lent
+            },
+            ..call.clone()
+        });
+        calls.push(Call {
+            lent: Lent {
+                floats: lent.floats - 1,
+                ..lent
+            },
+            ..call.clone()
+        });
+        calls.push(Call {
+            lent: Lent {
+                indices: lent.indices - 1,
+                ..lent
+            },
+            ..call
+        });
     }
     calls
 }

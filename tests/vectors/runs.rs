@@ -5,11 +5,11 @@ use crate::inputs::Random;
 use crate::series::{SeriesKind, SERIES_KINDS};
 
 /// Series made for their differences.
-pub const DIFFERENCE_KINDS: [SeriesKind; 3] = [even_steps, near_ties, near_floor];
+const DIFFERENCE_KINDS: [SeriesKind; 3] = [even_steps, near_ties, near_floor];
 
 /// A centre and a scale: ordinary values, values so small that their squares are subnormal, and values
 /// so large that their squares are infinite.
-const SIZES: [(f64, f64); 3] = [(2.0, 1.0), (0.0, 1e-155), (0.0, 1e200)];
+pub const SIZES: [(f64, f64); 3] = [(2.0, 1.0), (0.0, 1e-155), (0.0, 1e200)];
 
 /// Channels of one length, the segments whose costs are asked, and the area lent for the differences.
 pub struct Run {
@@ -94,7 +94,7 @@ fn near_floor(random: &mut Random, _: f64, scale: f64, count: usize) -> Vec<f64>
     readings
 }
 
-fn kinds() -> Vec<SeriesKind> {
+pub fn kinds() -> Vec<SeriesKind> {
     [&SERIES_KINDS[..], &DIFFERENCE_KINDS[..]].concat()
 }
 

@@ -61,7 +61,10 @@ struct Writer<W: Write> {
 impl<W: Write> Writer<W> {
     /// The lowest bytes of a number, the highest of them first.
     fn number(&mut self, number: u64, width: usize) -> io::Result<()> {
-        assert!(width == 8 || number >> (8 * width) == 0, "a number of {width} bytes");
+        assert!(
+            width == 8 || number >> (8 * width) == 0,
+            "a number of {width} bytes"
+        );
         self.out.write_all(&number.to_be_bytes()[8 - width..])
     }
 
@@ -83,7 +86,9 @@ impl<W: Write> Writer<W> {
         self.lengths = lengths.to_vec();
         self.out.write_all(b"l")?;
         self.number(lengths.len() as u64, 1)?;
-        lengths.iter().try_for_each(|&length| self.number(length, 8))
+        lengths
+            .iter()
+            .try_for_each(|&length| self.number(length, 8))
     }
 
     fn settings(&mut self, call: &Call) -> io::Result<()> {
