@@ -9,7 +9,7 @@ const DIFFERENCE_KINDS: [SeriesKind; 3] = [even_steps, near_ties, near_floor];
 
 /// A centre and a scale: ordinary values, values so small that their squares are subnormal, and values
 /// so large that their squares are infinite.
-const SIZES: [(f64, f64); 3] = [(2.0, 1.0), (0.0, 1e-155), (0.0, 1e200)];
+pub const SIZES: [(f64, f64); 3] = [(2.0, 1.0), (0.0, 1e-155), (0.0, 1e200)];
 
 /// Channels of one length, the segments whose costs are asked, and the area lent for the differences.
 pub struct Run {
@@ -59,7 +59,7 @@ impl Run {
 /// The same with quiet NaNs, of every sign and payload. What the Rust's `f64::min` and `f64::max` make of
 /// a signalling one is open, and on some platforms it is NaN where they pass over a quiet one; document
 /// 01 counts NaNs as one value.
-fn quiet(readings: Vec<f64>) -> Vec<f64> {
+pub fn quiet(readings: Vec<f64>) -> Vec<f64> {
     let quieted = |x: f64| match x.is_nan() {
         true => f64::from_bits(x.to_bits() | 1 << 51),
         false => x,
@@ -94,7 +94,7 @@ fn near_floor(random: &mut Random, _: f64, scale: f64, count: usize) -> Vec<f64>
     readings
 }
 
-fn kinds() -> Vec<SeriesKind> {
+pub fn kinds() -> Vec<SeriesKind> {
     [&SERIES_KINDS[..], &DIFFERENCE_KINDS[..]].concat()
 }
 

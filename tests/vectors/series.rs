@@ -81,7 +81,7 @@ fn either_sign(random: &mut Random, magnitude: f64) -> f64 {
 }
 
 /// From 0 up to 1.
-fn fraction(random: &mut Random) -> f64 {
+pub fn fraction(random: &mut Random) -> f64 {
     (random.next() >> 11) as f64 / (1u64 << 53) as f64
 }
 

@@ -1,0 +1,72 @@
+-- `replay_pelt::replay_all` is safe and ends: the loop's test keeps the count of its turns below the largest number. Assumes nothing.
+use Prim.Native.Nat.{_-_, _^_}
+use borrow.Author.Needs.{needs}
+use Rattle.replay_pelt.proofs.replay_all.Statement.{statement}
+use Rattle.replay_pelt.proofs.replay_all.Tie as tie
+
+abbrev Inv-loop : tie.InvT-loop
+Inv-loop run₀ lengths₀ cuts₀ floats₀ indices₀ pool₀ state₀ turn₀ run lengths cuts floats indices pool state turn =
+    Unit {0}
+
+abbrev μ-loop : tie.MeasureT-loop
+μ-loop run₀ lengths₀ cuts₀ floats₀ indices₀ pool₀ state₀ turn₀ run lengths cuts floats indices pool state turn =
+    2 ^ 64 - turn
+
+new-requires : tie.Need-new-requires Inv-loop μ-loop
+new-requires c κs = search needs
+
+loop-holds : tie.Need-loop-holds Inv-loop μ-loop
+loop-holds c = search needs
+
+next-block-requires : tie.Need-next-block-requires Inv-loop μ-loop
+next-block-requires c κs = search needs
+
+array-read-if1 : tie.Need-array-read-if1 Inv-loop μ-loop
+array-read-if1 c = search needs
+
+returns : tie.Need-returns Inv-loop μ-loop
+returns c = search needs
+
+array-read-replay-record : tie.Need-array-read-replay-record Inv-loop μ-loop
+array-read-replay-record c = search needs
+
+replay-record-requires : tie.Need-replay-record-requires Inv-loop μ-loop
+replay-record-requires c κs = search needs
+
+whole-requires : tie.Need-whole-requires Inv-loop μ-loop
+whole-requires c κs = search needs
+
+returns-2 : tie.Need-returns-2 Inv-loop μ-loop
+returns-2 c = search needs
+
+add-turn : tie.Need-add-turn Inv-loop μ-loop
+add-turn c = search needs
+
+loop-less : tie.Need-loop-less Inv-loop μ-loop
+loop-less c = search needs
+
+loop-again : tie.Need-loop-again Inv-loop μ-loop
+loop-again c = search needs
+
+returns-3 : tie.Need-returns-3 Inv-loop μ-loop
+returns-3 c = search needs
+
+pub replay-all-spec : {M : Type 1} → statement M
+replay-all-spec =
+    tie.close
+    (tie.spec
+    Inv-loop
+    μ-loop
+    new-requires
+    loop-holds
+    next-block-requires
+    array-read-if1
+    returns
+    array-read-replay-record
+    replay-record-requires
+    whole-requires
+    returns-2
+    add-turn
+    loop-less
+    loop-again
+    returns-3)
