@@ -1,0 +1,91 @@
+-- The two tables hold, by computation. Assumes nothing.
+use Prim.Native.Nat.{ℕ}
+use mathlib.Core.Path.{refl, sym, ap₂, _∙_}
+use mathlib.Core.Bool.{true, false}
+use mathlib.Core.List.{List, _++_, map-append}
+use lib.ListN.{replicate}
+use lib.Ieee.{Float, nan, neg, isNan, eq, ne, lt, le, size, add, sub, mul, div, ofInt}
+use Rattle.floats.specs.Numbers.{whole, ratio, +0, +∞}
+use Rattle.floats.specs.Finite.{abs}
+use Rattle.floats.specs.MaxMin.{max, min}
+use Rattle.floats.specs.Ahead.{ahead}
+use Rattle.elementary.specs.Root.{sqrt}
+use Rattle.elementary.specs.Power.{powi, powFrom}
+use Rattle.elementary.specs.Logarithm.{ln, lnScaled, lnOf, series}
+use Rattle.refusals.specs.Said.{answered, refused, tried}
+use Rattle.readings.specs.Parts.{part, tab}
+use Rattle.readings.specs.Shape.{totalTo, sameTo, shapeTests}
+use Rattle.readings.specs.Gaps.{gapTo, channelAt, indexAt}
+use Rattle.readings.specs.Channels.{hasChannel, channelOf}
+use Rattle.sums.specs.Sums.{sumTo, meanOf, centred, centredTo, squaresTo}
+use Rattle.sums.specs.Extremes.{lowestTo, highestTo, rangeOf}
+use Rattle.noise.specs.Order.{insert, sorted}
+use Rattle.noise.specs.Median.{differenceAt, differences, median}
+use Rattle.noise.specs.Noise.{spreadOf, floorOf, noise, noiseSumTo}
+use Rattle.costs.specs.Costs.{segmentAbout, segmentOf, l2Cost, smallestNormal, normalCost, costOf, costTo}
+use Rattle.costs.specs.Penalties.{bicPenalty, penaltyOf}
+use Rattle.recurrence.specs.Minimum.{noneYet, betterOf, scanTo, keptTo}
+use Rattle.inequality.specs.Inequality as Inequality
+use Rattle.candidate.specs.Boxes.{spanAt, withSpan, overChannels, alongEach, gap2, narrowed, missed, nothing, restrict, isDominated}
+use Rattle.candidate.specs.Balls.{narrowestTo, displace, loseInside}
+use Rattle.candidate.specs.Cuts.{far2, inside, moved, cutEnds, cutSpan, cutBy, cutTo, cutLosing}
+use Rattle.functional.specs.Functional.{price, places, bestAt, centreAlong, besides, facing, lostTo, restricted, cutBack, winnersTo, rangeAlong, rangeBox, born, joinedBy, joinOf, livingAfter, stepOf, stateAfter, functional}
+use Rattle.backtrack.specs.Cuts.{predecessorOf, backFrom, cutsOf}
+use Rattle.admission.specs.Tests.{badPenalty, shortRoom, roomTests, searchTests, passed}
+use Rattle.finding.specs.Search.{penaltyValue, prunedCuts, functionalCuts, takesFunctional, cutsBy, cutsWith, cutsFound}
+use Rattle.finding.specs.Left.{foundSaid, cutsLeft, areaLeft}
+use Rattle.charts.specs.Answers.{chartAnswer}
+use Rattle.cusum.specs.Chart as Cusum
+use Rattle.cusum.specs.RunLength.{heardFrom, heard, runLength}
+use Rattle.ewma.specs.Chart as Ewma
+use Rattle.marked.specs.Calls.{Call, Outcome, searchOutcome, areasLeft, writtenBy, outcome}
+use Rattle.marked.specs.Rows.{Row, Hold, sumsFrom, averagesFrom}
+use Rattle.marked.specs.Marked.{markedRows}
+use Rattle.marked.specs.Further.{functionalRows, inequalityRows, refusalRows, chartRows, furtherRows}
+
+-- an outcome, opened: to unfold it is to unfold all that the line names
+opened : Call → Outcome
+unfolding outcome searchOutcome areasLeft writtenBy sumsFrom averagesFrom chartAnswer Cusum.stepOf Cusum.newOf Cusum.accepted heardFrom heard runLength Ewma.stepOf Ewma.newOf Ewma.accepted Ewma.halfWidth
+    searchTests roomTests shortRoom badPenalty shapeTests totalTo sameTo gapTo channelAt indexAt tried passed
+    cutsFound cutsWith cutsBy takesFunctional functionalCuts prunedCuts penaltyValue penaltyOf bicPenalty foundSaid cutsLeft areaLeft cutsOf backFrom predecessorOf
+    noiseSumTo noise spreadOf floorOf median differences differenceAt sorted insert tab
+    functional stateAfter stepOf livingAfter joinOf joinedBy born rangeBox rangeAlong winnersTo cutBack restricted lostTo facing besides centreAlong bestAt places price
+    Inequality.oldEnough Inequality.partOf Inequality.bestAt Inequality.staysAt Inequality.stepOf Inequality.stateAfter Inequality.predecessors Inequality.price
+    scanTo betterOf noneYet keptTo costTo costOf l2Cost normalCost smallestNormal segmentOf segmentAbout channelOf hasChannel part meanOf sumTo centred centredTo squaresTo
+    lowestTo highestTo rangeOf max min abs ahead sqrt spanAt withSpan overChannels alongEach gap2 narrowed missed nothing restrict isDominated
+    narrowestTo displace loseInside far2 inside moved cutEnds cutSpan cutBy cutTo cutLosing
+    powi powFrom ln lnScaled lnOf series ratio size isNan add sub mul div lt le eq ne neg ofInt
+opened call = outcome call
+
+-- P1 to P13
+pub marked : Hold markedRows
+unfolding opened markedRows
+marked = refl
+
+-- ---- our own rows, part by part
+both : (xs ys : List Row) → Hold xs → Hold ys → Hold (xs ++ ys)
+both xs ys p q =
+    map-append (λ (r : Row). outcome (r .call)) xs ys ∙ ap₂ (λ outcomes others. outcomes ++ others) p q ∙ sym (map-append (λ (r : Row). r .expected) xs ys)
+
+functional-rows : Hold functionalRows
+unfolding opened functionalRows
+functional-rows = refl
+
+inequality-rows : Hold inequalityRows
+unfolding opened inequalityRows
+inequality-rows = refl
+
+refusal-rows : Hold refusalRows
+unfolding opened refusalRows
+refusal-rows = refl
+
+chart-rows : Hold chartRows
+unfolding opened chartRows
+chart-rows = refl
+
+-- all of them
+pub further : Hold furtherRows
+unfolding furtherRows
+further =
+    both functionalRows (inequalityRows ++ (refusalRows ++ chartRows)) functional-rows
+    (both inequalityRows (refusalRows ++ chartRows) inequality-rows (both refusalRows chartRows refusal-rows chart-rows))

@@ -1,0 +1,4 @@
+pub mod Calls
+pub mod Rows
+pub mod Marked
+pub mod Further

@@ -1,0 +1,7 @@
+// The marked examples of document 01, evaluated. There is no code here: `specs/Marked` is the table of
+// P1 to P13 and `specs/Further` a second one of our own rows, which catch wrong programs that the first
+// lets pass; docs/PROMISES.md says which row refuses which.
+//
+// It promises that both tables hold of the definitions that the contracts of `pelt`, `cusum` and `ewma`
+// cite, each under a single statement (`proofs/Tables`: `marked`, `further`), and that whatever meets
+// such a contract says and leaves what a row does (`proofs/Contracts`).
