@@ -8,6 +8,8 @@ use native.Mathlib.Nat.{le-of-lt, le-trans, lt-irrefl}
 use lib.Dec.{eqb}
 use lib.ListN.{length, getD, length-append}
 use lib.Ieee.{Float}
+use mir.Syntax.{w64}
+use mir.Val.{Fits}
 use Rattle.floats.specs.Numbers.{+0}
 use Rattle.readings.specs.Parts.{part}
 use Rattle.readings.proofs.PartLaws.{tab-at, tab-length, frame-refl, frame-trans}
@@ -24,6 +26,25 @@ use Rattle.functional.proofs.SlotLaws.{slot-long, box-put, balls-beside
 use Rattle.functional.proofs.BallLaws.{balls-cut}
 use Rattle.functional.proofs.BoxLaws.{box-by-numbers, box-wide, restrict-wide, cut-wide}
 use Rattle.functional.proofs.NarrowLaws.{stored-from, stored-living, stored-sane, joined-gone, joined-stays, indices-frame}
+
+-- ---- the candidates that live are within the pool and the definition's bounds
+pub within-pool : (count slots size size′ : ℕ) → count ≤ slots → 200 * slots ≤ size → size′ ≡ size → 200 * count ≤ size′
+within-pool count slots size size′ h s e = omega arith
+
+pub same-room : {a b c : ℕ} → c ≡ b → a ≤ b → a ≤ c
+same-room {a} e h = subst (λ (x : ℕ). a ≤ x) (sym e) h
+
+pub one-more : (a b : ℕ) → a ≤ b → a ≤ b + 1
+one-more a b h = omega arith
+
+pub under-limit : (count n : ℕ) → count ≤ n → n ≤ 4096 → count ≤ 4097
+under-limit count n h l = omega arith
+
+pub width-fits : (n : ℕ) → n ≤ 4096 → Fits w64 (n + 1)
+width-fits n h = omega arith
+
+pub width-under : (n : ℕ) → n ≤ 4096 → n + 1 ≤ 4097
+width-under n h = omega arith
 
 -- ---- the new candidate
 pub born-cut : (q : Plan) (area : List Float) (balls b : ℕ) (cut : Candidate) → Balls (q .channels) area balls (ballsAt (q .channels) area 0 balls) → length area ≡ 192

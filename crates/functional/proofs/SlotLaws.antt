@@ -9,6 +9,8 @@ use native.Mathlib.Numerals.{add-one}
 use lib.Seq.{getD-set-same, getD-set-other, drop-set-lt, getD-drop, getD-take}
 use lib.ListN.{length, getD, set, drop, length-set}
 use lib.Ieee.{Float, nan}
+use mir.Syntax.{w64}
+use mir.Val.{Fits}
 use Rattle.readings.specs.Parts.{part, Frame}
 use Rattle.readings.proofs.PartLaws.{read, store, part-front, part-back, part-length, part-at, push, part-suc, frame-refl, frame-set, frame-trans, frame-wide}
 use Rattle.candidate.specs.declared.Candidate.{Candidate}
@@ -21,6 +23,26 @@ use Rattle.functional.specs.Held.{slotAt, boxAt, facingAt, ballFloats, p
 pub slot-read : (pool : List Float) (j i p : ℕ) → p ≡ 200 * j + i → i < 200 → getD pool p nan ≡ getD (slotAt pool j) i nan
 unfolding slotAt
 slot-read pool j i p e h = read pool (200 * j) 200 i p nan e h
+
+-- a place of slot j is a number of 64 bits, and within a pool that has the slot
+pub slot-fits : (j i : ℕ) → j ≤ 4096 → i < 200 → Fits w64 (200 * j + i)
+slot-fits j i h l = omega arith
+
+pub slot-inside : (size j i : ℕ) → 200 * j + 200 ≤ size → i < 200 → 200 * j + i < size
+slot-inside size j i h l = omega arith
+
+-- four floats of a pool are the box of a slot, or the ball that it faces
+pub box-read : (pool : List Float) (j : ℕ) (a b c d : Float) → a ≡ getD pool (200 * j) nan → b ≡ getD pool (200 * j + 2) nan → c ≡ getD pool (200 * j + 1) nan → d ≡ getD pool (200 * j + 3) nan
+    → record { lo = a ∷ b ∷ []; hi = c ∷ d ∷ [] } ≡ boxAt (slotAt pool j)
+unfolding boxAt
+box-read pool j a b c d p q r s =
+    rw (p ∙ slot-read pool j 0 (200 * j) (omega arith) (omega arith), q ∙ slot-read pool j 2 _ refl (omega arith), r ∙ slot-read pool j 1 _ refl (omega arith), s ∙ slot-read pool j 3 _ refl (omega arith)) refl
+
+pub facing-read : (pool : List Float) (j : ℕ) (a b c d : Float) → a ≡ getD pool (200 * j + 4) nan → b ≡ getD pool (200 * j + 5) nan → c ≡ getD pool (200 * j + 6) nan → d ≡ getD pool (200 * j + 7) nan
+    → record { cx = a; cy = b; outer = c; inner = d } ≡ facingAt (slotAt pool j)
+unfolding facingAt
+facing-read pool j a b c d p q r s =
+    rw (p ∙ slot-read pool j 4 _ refl (omega arith), q ∙ slot-read pool j 5 _ refl (omega arith), r ∙ slot-read pool j 6 _ refl (omega arith), s ∙ slot-read pool j 7 _ refl (omega arith)) refl
 
 pub slot-long : (pool : List Float) (j : ℕ) → 200 * j + 200 ≤ length pool → length (slotAt pool j) ≡ 200
 unfolding slotAt

@@ -1,3 +1,4 @@
+use mathlib.Core.Path.{refl}
 use Prim.Native.Nat.{_-_}
 use borrow.Author.Needs.{needs}
 use Rattle.functional.proofs.faces.mean_between.Statement.{statement}
@@ -25,7 +26,7 @@ int-to-float-result : tie.Need-int-to-float-result
 int-to-float-result c = search needs
 
 returns : tie.Need-returns
-returns c = cc
+returns c = rw (c .before .before .float-at .ensures, c .before .float-at2 .ensures) refl
 
 pub mean-between-spec : {M : Type 1} → statement M
 mean-between-spec =
