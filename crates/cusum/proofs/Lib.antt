@@ -3,4 +3,3 @@ pub mod Hearing
 pub mod Sums
 pub mod RunLength
 pub mod Promise
-pub mod Examples

@@ -1,12 +1,9 @@
--- Searches by computation: P1 to P4 and P9 of document 01, the slack, births, a NaN penalty, two cuts, two channels. Assumes nothing.
+-- Searches by computation: births, two cuts, two channels; crate `marked` has P1 to P9 and more. Assumes nothing.
 use Prim.Native.Nat.{ℕ}
-use mathlib.Core.Path.{_≡_, refl, ap}
-use mathlib.Core.Bool.{true, false}
+use mathlib.Core.Path.{_≡_, refl}
 use mathlib.Core.List.{List, [], _∷_, _++_, map}
-use lib.Dec.{leb}
-use lib.ListN.{replicate}
-use lib.Ieee.{Float, nan, inf, fin, neg, eq, ne, lt, le, size, add, sub, mul, div, ofInt}
-use Rattle.floats.specs.Numbers.{_*ᶠ_, whole, ratio, +∞}
+use lib.Ieee.{Float, nan, neg, eq, ne, lt, le, size, add, sub, mul, div, ofInt}
+use Rattle.floats.specs.Numbers.{whole, ratio}
 use Rattle.floats.specs.MaxMin.{max, min}
 use Rattle.floats.specs.Finite.{abs}
 use Rattle.elementary.specs.Root.{sqrt}
@@ -15,8 +12,6 @@ use Rattle.readings.specs.Channels.{hasChannel, channelOf}
 use Rattle.sums.specs.Sums.{sumTo, meanOf, centred, centredTo, squaresTo}
 use Rattle.sums.specs.Extremes.{lowestTo, highestTo, rangeOf}
 use Rattle.costs.specs.Costs.{segmentAbout, segmentOf, l2Cost, costOf, costTo}
-use Rattle.costs.specs.Penalties.{bicPenalty}
-use Rattle.costs.specs.declared.CostFunction.the-variants.{L2}
 use Rattle.recurrence.specs.Minimum.{noneYet, betterOf, scanTo}
 use Rattle.candidate.specs.Boxes.{spanAt, withSpan, overChannels, alongEach, gap2, narrowed, missed, nothing, restrict, isDominated}
 use Rattle.candidate.specs.Balls.{ahead, narrowestTo, displace, loseInside}
@@ -32,84 +27,25 @@ search k = functional k
 abbrev row : ℕ → ℕ → List Float → Float → Task
 row channels n run penalty = record { run = run; n = n; channels = channels; m = 2; penalty = penalty }
 
--- ---- P1 to P4: 0 0 4 4
+-- ---- 0 0 4 4
 abbrev step : List Float
 step = whole 0 ∷ whole 0 ∷ whole 4 ∷ whole 4 ∷ []
 
--- P1 and P2, custom 1 and 15.5: the cut is 2
-p1-cut-2 : functional (row 1 4 step (whole 1)) .last ≡ 0 ∷ 0 ∷ 0 ∷ 0 ∷ 2 ∷ []
-unfolding search
-p1-cut-2 = refl
-
-p2-cut-2 : functional (row 1 4 step (ratio 31 2)) .last ≡ 0 ∷ 0 ∷ 0 ∷ 0 ∷ 2 ∷ []
-unfolding search
-p2-cut-2 = refl
-
--- P3, custom 16, which is what the cut saves: on a tie the earlier candidate wins
-p3-tie-none : functional (row 1 4 step (whole 16)) .last ≡ 0 ∷ 0 ∷ 0 ∷ 0 ∷ 0 ∷ []
-unfolding search
-p3-tie-none = refl
-
--- P4: of P1 there have been two candidates at most, so one slot is too few and two are enough
-p1-peak : functional (row 1 4 step (whole 1)) .peak ≡ 2
-unfolding search
-p1-peak = refl
-
-p4-one-too-few : leb (functional (row 1 4 step (whole 1)) .peak) 1 ≡ false
-p4-one-too-few = ap (λ x. leb x 1) p1-peak
-
-p4-two-enough : leb (functional (row 1 4 step (whole 1)) .peak) 2 ≡ true
-p4-two-enough = ap (λ x. leb x 2) p1-peak
-
--- ---- the slack: with m 1 and custom 16 it alone leaves candidate 1 the upper end of the range, after t = 1
-slack-keeps-1 : places (stateAfter (record { run = step; n = 4; channels = 1; m = 1; penalty = whole 16 }) 1 .living) ≡ 0 ∷ 1 ∷ []
-unfolding search
-slack-keeps-1 = refl
-
--- ---- P9, plain: 0 NaN 4 4, custom 1
+-- ---- 0 NaN 4 4, custom 1
 abbrev gap : Task
 gap = row 1 4 (whole 0 ∷ nan ∷ whole 4 ∷ whole 4 ∷ []) (whole 1)
 
--- no total is a number: no cut
-p9-none : functional gap .last ≡ 0 ∷ 0 ∷ 0 ∷ 0 ∷ 0 ∷ []
-unfolding search
-p9-none = refl
-
 -- nobody is dropped, so all births show: after t = 2, where b = 1 is below m, after t = 3 and after t = 4
-p9-births : map (λ d. places (stateAfter gap d .living)) (1 ∷ 2 ∷ 3 ∷ []) ≡ (0 ∷ []) ∷ (0 ∷ 2 ∷ []) ∷ (0 ∷ 2 ∷ 3 ∷ []) ∷ []
+all-births : map (λ d. places (stateAfter gap d .living)) (1 ∷ 2 ∷ 3 ∷ []) ≡ (0 ∷ []) ∷ (0 ∷ 2 ∷ []) ∷ (0 ∷ 2 ∷ 3 ∷ []) ∷ []
 unfolding search
-p9-births = refl
-
--- the third slot is for the birth at t = n alone
-p9-peaks : map (λ d. stateAfter gap d .peak) (1 ∷ 2 ∷ 3 ∷ []) ≡ 1 ∷ 2 ∷ 3 ∷ []
-unfolding search
-p9-peaks = refl
-
--- ---- four times +infinity by BIC: the noise is NaN, and so is the penalty; the search goes on, and two slots are too few
-times-nan : (x : Float) → x *ᶠ nan ≡ nan
-unfolding mul
-times-nan nan = refl
-times-nan (inf s) = refl
-times-nan (fin s m e) = refl
-
-bic-of-nan : bicPenalty L2 4 (whole 1) nan ≡ nan
-unfolding bicPenalty
-bic-of-nan = times-nan _
-
-infinite-goes-on : functional (row 1 4 (+∞ ∷ +∞ ∷ +∞ ∷ +∞ ∷ []) nan) .peak ≡ 3
-unfolding search
-infinite-goes-on = refl
+all-births = refl
 
 -- ---- 0 0 4 4 0 0, custom 1: the cuts are 4 and, before it, 2
 two-cuts : functional (row 1 6 (step ++ (whole 0 ∷ whole 0 ∷ [])) (whole 1)) .last ≡ 0 ∷ 0 ∷ 0 ∷ 0 ∷ 2 ∷ 2 ∷ 4 ∷ []
 unfolding search
 two-cuts = refl
 
--- ---- two channels, custom 1: both step, and the second alone does
+-- ---- two channels that both step, custom 1
 both-step : functional (row 2 4 (step ++ step) (whole 2)) .last ≡ 0 ∷ 0 ∷ 0 ∷ 0 ∷ 2 ∷ []
 unfolding search
 both-step = refl
-
-second-steps : functional (row 2 4 (replicate 4 (whole 1) ++ step) (whole 2)) .last ≡ 0 ∷ 0 ∷ 0 ∷ 0 ∷ 2 ∷ []
-unfolding search
-second-steps = refl

@@ -1,4 +1,4 @@
--- Searches by computation: the row that document 01 runs only, a winner that is dropped with the others, three channels, an early tie, a NaN penalty. Assumes nothing.
+-- Steps of searches by computation: a winner that is dropped with the others, an early tie, a NaN penalty; crate `marked` has whole searches. Assumes nothing.
 use Prim.Native.Nat.{_^_}
 use mathlib.Core.Path.{_≡_, refl}
 use mathlib.Core.List.{List, [], _∷_}
@@ -20,16 +20,7 @@ steps = whole 0 ∷ whole 0 ∷ whole 4 ∷ whole 4 ∷ []
 flat : List Float
 flat = whole 0 ∷ whole 0 ∷ whole 0 ∷ whole 0 ∷ []
 
--- Normal, 0 0 4 4, custom 1: the cut is 2
-normal-steps : predecessors (price Normal steps 4 1) (whole 1) 2 4 ≡ 0 ∷ 0 ∷ 0 ∷ 0 ∷ 2 ∷ []
-unfolding predecessors stateAfter stepOf bestAt staysAt partOf oldEnough price scanTo keptTo betterOf noneYet costTo costOf normalCost l2Cost segmentOf segmentAbout smallestNormal channelOf hasChannel part meanOf sumTo centred centredTo squaresTo ratio ln lnScaled lnOf series size add sub mul div lt le neg ofInt steps
-normal-steps = refl
-
--- Normal, 0 0 0 0, custom 1e-300: at t = 2 the winner 0 goes with its part, so F(3) is infinite; the cut is 2
-normal-flat : predecessors (price Normal flat 4 1) (ratio 1 (10 ^ 300)) 2 4 ≡ 0 ∷ 0 ∷ 0 ∷ 0 ∷ 2 ∷ []
-unfolding predecessors stateAfter stepOf bestAt staysAt partOf oldEnough price scanTo keptTo betterOf noneYet costTo costOf normalCost l2Cost segmentOf segmentAbout smallestNormal channelOf hasChannel part meanOf sumTo centred centredTo squaresTo ratio ln lnScaled lnOf series size add sub mul div lt le neg ofInt flat
-normal-flat = refl
-
+-- Normal, 0 0 0 0, custom 1e-300: at t = 2 the winner 0 goes with its part, so F(3) is infinite
 winner-gone : stateAfter (price Normal flat 4 1) (ratio 1 (10 ^ 300)) 2 4 1 .candidates ≡ 2 ∷ []
 unfolding predecessors stateAfter stepOf bestAt staysAt partOf oldEnough price scanTo keptTo betterOf noneYet costTo costOf normalCost l2Cost segmentOf segmentAbout smallestNormal channelOf hasChannel part meanOf sumTo centred centredTo squaresTo ratio ln lnScaled lnOf series size add sub mul div lt le neg ofInt flat
 winner-gone = refl
@@ -37,11 +28,6 @@ winner-gone = refl
 next-is-infinite : getD (stateAfter (price Normal flat 4 1) (ratio 1 (10 ^ 300)) 2 4 2 .f) 3 nan ≡ +∞
 unfolding predecessors stateAfter stepOf bestAt staysAt partOf oldEnough price scanTo keptTo betterOf noneYet costTo costOf normalCost l2Cost segmentOf segmentAbout smallestNormal channelOf hasChannel part meanOf sumTo centred centredTo squaresTo ratio ln lnScaled lnOf series size add sub mul div lt le neg ofInt flat
 next-is-infinite = refl
-
--- L2 on three channels, of which the second alone steps, penalty 3: the cut is 2
-three-channels : predecessors (price L2 (whole 1 ∷ whole 1 ∷ whole 1 ∷ whole 1 ∷ whole 0 ∷ whole 0 ∷ whole 4 ∷ whole 4 ∷ whole 2 ∷ whole 3 ∷ whole 2 ∷ whole 3 ∷ []) 4 3) (whole 3) 2 4 ≡ 0 ∷ 0 ∷ 0 ∷ 0 ∷ 2 ∷ []
-unfolding predecessors stateAfter stepOf bestAt staysAt partOf oldEnough price scanTo keptTo betterOf noneYet costTo costOf normalCost l2Cost segmentOf segmentAbout smallestNormal channelOf hasChannel part meanOf sumTo centred centredTo squaresTo ratio ln lnScaled lnOf series size add sub mul div lt le neg ofInt
-three-channels = refl
 
 -- 16 is what the cut at 2 would save: on a tie the earlier candidate wins, and there is no cut
 tie : predecessors (price L2 steps 4 1) (whole 16) 2 4 ≡ 0 ∷ 0 ∷ 0 ∷ 0 ∷ 0 ∷ []
