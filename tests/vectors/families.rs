@@ -634,6 +634,72 @@ fn ramps() -> Vec<Call> {
     calls
 }
 
+/// Lines and curves on two channels with a high penalty, in which more candidates live than a list of
+/// balls holds: which of them live on depends on the balls' order.
+fn crowds(random: &mut Random) -> Vec<Call> {
+    let mut calls = Vec::new();
+    for at in 0..240 {
+        let n = 100 + random.below(70) as usize;
+        let mut channel = || {
+            let step = pick(random, &[0.5, 1.0, 2.0, 6.0]);
+            let noise = pick(random, &[0.0, 0.5, 3.0]);
+            let line = |i: usize| step * i as f64;
+            let base = |i: usize| {
+                if at % 2 == 0 {
+                    line(i)
+                } else {
+                    10.0 * line(i).sqrt()
+                }
+            };
+            let mut reading = |i| base(i) + noise * (fraction(random) - 0.5);
+            (0..n).map(&mut reading).collect()
+        };
+        let run = Run::new(vec![channel(), channel()]);
+        let penalty = pick(random, &[1e4, 3e4, 1e5, 3e5]);
+        let call = run.call(l2(penalty));
+        if peak(&call) > Some(64) {
+            calls.extend(around_peak(call));
+        }
+    }
+    calls
+}
+
+/// Halves and penalties so small that the room for rounding decides which candidates live.
+fn slack(random: &mut Random) -> Vec<Call> {
+    let mut calls = Vec::new();
+    for at in 0..24 {
+        let n = 20 + random.below(60) as usize;
+        let mut channel = || (0..n).map(|_| random.below(4) as f64 / 2.0).collect();
+        let made = (0..1 + at % 2).map(|_| channel()).collect();
+        let run = Run::new(made);
+        for unit in [1e-9, 1e-8, 1e-7] {
+            let penalty = unit * (1.0 + fraction(random));
+            calls.extend(around_peak(run.call(l2(penalty))));
+        }
+    }
+    calls
+}
+
+/// Channels of infinities of one sign: the noise is NaN and so is the penalty by BIC, and the search goes
+/// on.
+fn nan_penalties() -> Vec<Call> {
+    let mut calls = Vec::new();
+    for channels in 1..=3 {
+        for n in 3..12 {
+            for value in [INFINITY, -INFINITY] {
+                let run = Run::new(vec![vec![value; n]; channels]);
+                for settings in [L2_BIC, NORMAL_BIC, at_least(L2_BIC, 3)] {
+                    let call = run.call(settings);
+                    calls.push(with_slots(&call, 0));
+                    calls.extend(around_peak(call.clone()));
+                    calls.push(call);
+                }
+            }
+        }
+    }
+    calls
+}
+
 /// Long enough series in which all radii are NaN, or those after the first cost that overflows, so that
 /// candidates lose inside more than 64 balls that are none.
 fn balls_without_radius(random: &mut Random) -> Vec<Call> {
@@ -727,6 +793,9 @@ pub fn all() -> Vec<(&'static str, Vec<Call>)> {
         ("pools about the peak", pools(random)),
         ("ramps with many balls", ramps()),
         ("balls without a radius", balls_without_radius(random)),
+        ("crowds of candidates", crowds(random)),
+        ("room for rounding", slack(random)),
+        ("penalties that are NaN", nan_penalties()),
         ("the longest channels", longest(random)),
     ]
 }
