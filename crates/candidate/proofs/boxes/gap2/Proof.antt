@@ -1,3 +1,4 @@
+use mathlib.Core.Path.{refl}
 use borrow.Author.Needs.{needs}
 use Rattle.candidate.proofs.boxes.gap2.Statement.{statement}
 use Rattle.candidate.proofs.boxes.gap2.Tie as tie
@@ -12,7 +13,7 @@ max-requires-2 c κs = search needs
 
 returns : tie.Need-returns
 unfolding gap2 ofBits
-returns c = cc
+returns c = rw (c .max2 .ensures, c .before .max .ensures) refl
 
 pub gap2-spec : {M : Type 1} → statement M
 gap2-spec = tie.close (tie.spec max-requires max-requires-2 returns)

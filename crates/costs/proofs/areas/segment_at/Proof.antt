@@ -1,3 +1,4 @@
+use mathlib.Core.Path.{refl}
 use Prim.Native.Nat.{_-_}
 use borrow.Author.Needs.{needs}
 use Rattle.costs.proofs.areas.segment_at.Statement.{statement}
@@ -27,7 +28,7 @@ between-requires-2 c κs = search needs
 
 returns : tie.Need-returns
 unfolding segmentAt
-returns c = cc
+returns c = rw (c .between2 .ensures, c .before .between .ensures) refl
 
 pub segment-at-spec : {M : Type 1} → statement M
 segment-at-spec =

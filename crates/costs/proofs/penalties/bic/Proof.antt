@@ -1,3 +1,4 @@
+use mathlib.Core.Path.{refl}
 use Prim.Native.Nat.{_-_}
 use borrow.Author.Needs.{needs}
 use Rattle.costs.proofs.penalties.bic.Statement.{statement}
@@ -23,11 +24,11 @@ enum-told-2 c = search needs
 
 returns : tie.Need-returns
 unfolding bicPenalty ofBits ofInt
-returns c = cc
+returns c = rw (c .enum-told .given .1, c .before .before .ln .ensures, c .before .before .before .nearest-u64-to-f64 .ensures) refl
 
 returns-2 : tie.Need-returns-2
 unfolding bicPenalty ofBits ofInt
-returns-2 c = cc
+returns-2 c = rw (c .enum-told2 .given .1, c .before .before .ln .ensures, c .before .before .before .nearest-u64-to-f64 .ensures) refl
 
 pub bic-spec : {M : Type 1} → statement M
 bic-spec =

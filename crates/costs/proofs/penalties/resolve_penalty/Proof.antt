@@ -1,3 +1,4 @@
+use mathlib.Core.Path.{refl}
 use Prim.Native.Nat.{_-_}
 use borrow.Author.Needs.{needs}
 use Rattle.costs.proofs.penalties.resolve_penalty.Statement.{statement}
@@ -22,11 +23,11 @@ enum-known-penalty c = search needs
 
 returns : tie.Need-returns
 unfolding penaltyOf
-returns c = cc
+returns c = rw (c .before .enum-told .given .1, c .bic .ensures, c .before .before .before .nearest-u64-to-f64 .ensures) refl
 
 returns-2 : tie.Need-returns-2
 unfolding penaltyOf
-returns-2 c = cc
+returns-2 c = rw (c .before .penalty .given .1, c .before .before .before .nearest-u64-to-f64 .ensures) refl
 
 pub resolve-penalty-spec : {M : Type 1} → statement M
 resolve-penalty-spec =

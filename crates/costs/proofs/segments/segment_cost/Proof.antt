@@ -22,11 +22,11 @@ normal-cost-requires c κs = search needs
 
 returns : tie.Need-returns
 unfolding costOf
-returns c = cc
+returns c = rw (c .before .enum-told .given .1) (c .l2-cost .ensures)
 
 returns-2 : tie.Need-returns-2
 unfolding costOf
-returns-2 c = cc
+returns-2 c = rw (c .before .enum-told2 .given .1) (c .normal-cost .ensures)
 
 pub segment-cost-spec : {M : Type 1} → statement M
 segment-cost-spec =

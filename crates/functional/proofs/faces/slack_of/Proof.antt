@@ -1,3 +1,4 @@
+use mathlib.Core.Path.{refl}
 use Prim.Native.Nat.{_-_}
 use borrow.Author.Needs.{needs}
 use Rattle.functional.proofs.faces.slack_of.Statement.{statement}
@@ -16,7 +17,7 @@ abs-requires-3 c κs = search needs
 
 returns : tie.Need-returns
 unfolding ofBits ratio
-returns c = cc
+returns c = rw (c .abs3 .ensures, c .before .abs2 .ensures, c .before .before .abs .ensures) refl
 
 pub slack-of-spec : {M : Type 1} → statement M
 slack-of-spec = tie.close (tie.spec abs-requires abs-requires-2 abs-requires-3 returns)

@@ -1,4 +1,4 @@
-use mathlib.Core.Path.{_≡_, ap}
+use mathlib.Core.Path.{_≡_, refl, ap}
 use Prim.Native.Nat.{_≤_, _-_}
 use native.Mathlib.Omega.{arith}
 use borrow.Author.Needs.{needs}
@@ -38,7 +38,9 @@ loop-again c = (search needs, centred-more _ _ _ _ (c .before .before .loop .inv
 
 returns : tie.Need-returns Inv-loop μ-loop
 unfolding runningAt
-returns c = let e : c .before .loop .i ≡ c .before .before .args .to = omega arith in cc
+returns c =
+    let e : c .before .loop .i ≡ c .before .before .args .to = omega arith in
+    rw (c .before .loop .inv .1, c .before .loop .inv .2, e) refl
 
 pub advance-spec : {M : Type 1} → statement M
 advance-spec =

@@ -1,3 +1,4 @@
+use mathlib.Core.Path.{refl}
 use borrow.Author.Needs.{needs}
 use Rattle.spans.proofs.reach.narrowed.Statement.{statement}
 use Rattle.spans.proofs.reach.narrowed.Tie as tie
@@ -18,7 +19,7 @@ min-requires c κs = search needs
 
 returns : tie.Need-returns
 unfolding narrowed ofBits
-returns c = cc
+returns c = rw (c .min .ensures, c .before .max2 .ensures, c .before .before .sqrt .ensures, c .before .before .before .max .ensures) refl
 
 pub narrowed-spec : {M : Type 1} → statement M
 narrowed-spec = tie.close (tie.spec max-requires sqrt-requires max-requires-2 min-requires returns)

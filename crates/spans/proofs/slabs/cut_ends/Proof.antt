@@ -1,3 +1,4 @@
+use mathlib.Core.Path.{refl}
 use borrow.Author.Needs.{needs}
 use Rattle.spans.proofs.slabs.cut_ends.Statement.{statement}
 use Rattle.spans.proofs.slabs.cut_ends.Tie as tie
@@ -11,7 +12,7 @@ moved-requires-2 c κs = search needs
 
 returns : tie.Need-returns
 unfolding cutEnds
-returns c = cc
+returns c = rw (c .moved2 .ensures, c .before .moved .ensures) refl
 
 pub cut-ends-spec : {M : Type 1} → statement M
 cut-ends-spec = tie.close (tie.spec moved-requires moved-requires-2 returns)

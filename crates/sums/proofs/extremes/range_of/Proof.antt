@@ -63,7 +63,9 @@ loop-again c = (search needs, c .before .before .min .ensures ∙ lowest-more _ 
 
 returns : tie.Need-returns Inv-loop μ-loop
 unfolding rangeOf
-returns c = let e : c .before .loop .i ≡ length (now (c .before .before .before .args .channel)) = omega arith in cc
+returns c =
+    let e : c .before .loop .i ≡ length (now (c .before .before .before .args .channel)) = omega arith in
+    rw (c .before .loop .inv .1, c .before .loop .inv .2, e) refl
 
 pub range-of-spec : {M : Type 1} → statement M
 range-of-spec =

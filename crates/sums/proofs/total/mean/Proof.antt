@@ -44,7 +44,9 @@ nearest-u64-to-f64-requires c κs = search needs
 
 returns : tie.Need-returns Inv-loop μ-loop
 unfolding meanOf
-returns c = let e : c .before .before .loop .i ≡ length (now (c .before .before .before .before .args .channel)) = omega arith in cc
+returns c =
+    let e : c .before .before .loop .i ≡ length (now (c .before .before .before .before .args .channel)) = omega arith in
+    rw (c .before .before .loop .inv .1, c .nearest-u64-to-f64 .ensures, e) refl
 
 pub mean-spec : {M : Type 1} → statement M
 mean-spec =
