@@ -5,8 +5,7 @@ use mathlib.Core.Bool.{Bool}
 use mathlib.Core.List.{List, [], _∷_}
 use lib.ListN.{length}
 use lib.Ieee.{Float}
-use Rattle.refusals.specs.Said.{Said}
-use Rattle.charts.specs.Answers.{charted, signalled, chartAnswer}
+use Rattle.charts.specs.Answers.{charted, signalled}
 use Rattle.charts.specs.Contracts.{Analyzed, Marked}
 use Rattle.charts.specs.Runs.{lent}
 use Rattle.charts.specs.declared.Charted.{Charted}

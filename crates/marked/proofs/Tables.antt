@@ -1,18 +1,15 @@
 -- The two tables hold, by computation. Assumes nothing.
-use Prim.Native.Nat.{ℕ}
 use mathlib.Core.Path.{refl, sym, ap₂, _∙_}
-use mathlib.Core.Bool.{true, false}
 use mathlib.Core.List.{List, _++_, map-append}
-use lib.ListN.{replicate}
-use lib.Ieee.{Float, nan, neg, isNan, eq, ne, lt, le, size, add, sub, mul, div, ofInt}
-use Rattle.floats.specs.Numbers.{whole, ratio, +0, +∞}
+use lib.Ieee.{neg, isNan, eq, ne, lt, le, size, add, sub, mul, div, ofInt}
+use Rattle.floats.specs.Numbers.{ratio}
 use Rattle.floats.specs.Finite.{abs}
 use Rattle.floats.specs.MaxMin.{max, min}
 use Rattle.floats.specs.Ahead.{ahead}
 use Rattle.elementary.specs.Root.{sqrt}
 use Rattle.elementary.specs.Power.{powi, powFrom}
 use Rattle.elementary.specs.Logarithm.{ln, lnScaled, lnOf, series}
-use Rattle.refusals.specs.Said.{answered, refused, tried}
+use Rattle.refusals.specs.Said.{tried}
 use Rattle.readings.specs.Parts.{part, tab}
 use Rattle.readings.specs.Shape.{totalTo, sameTo, shapeTests}
 use Rattle.readings.specs.Gaps.{gapTo, channelAt, indexAt}
@@ -38,10 +35,10 @@ use Rattle.charts.specs.Answers.{chartAnswer}
 use Rattle.cusum.specs.Chart as Cusum
 use Rattle.cusum.specs.RunLength.{heardFrom, heard, runLength}
 use Rattle.ewma.specs.Chart as Ewma
-use Rattle.marked.specs.Calls.{Call, Outcome, searchOutcome, areasLeft, writtenBy, outcome}
+use Rattle.marked.specs.Calls.{Call, Outcome, areasLeft, searchOutcome, writtenBy, outcome}
 use Rattle.marked.specs.Rows.{Row, Hold, sumsFrom, averagesFrom}
 use Rattle.marked.specs.Marked.{markedRows}
-use Rattle.marked.specs.Further.{functionalRows, inequalityRows, refusalRows, chartRows, furtherRows}
+use Rattle.marked.specs.Further.{functionalRows, inequalityRows, noiseRows, refusalRows, chartRows, furtherRows}
 
 -- an outcome, opened: to unfold it is to unfold all that the line names
 opened : Call → Outcome
@@ -57,12 +54,14 @@ unfolding outcome searchOutcome areasLeft writtenBy sumsFrom averagesFrom chartA
     powi powFrom ln lnScaled lnOf series ratio size isNan add sub mul div lt le eq ne neg ofInt
 opened call = outcome call
 
+-- ---- the tables
+
 -- P1 to P13
 pub marked : Hold markedRows
 unfolding opened markedRows
 marked = refl
 
--- ---- our own rows, part by part
+-- our own rows, part by part
 both : (xs ys : List Row) → Hold xs → Hold ys → Hold (xs ++ ys)
 both xs ys p q =
     map-append (λ (r : Row). outcome (r .call)) xs ys ∙ ap₂ (λ outcomes others. outcomes ++ others) p q ∙ sym (map-append (λ (r : Row). r .expected) xs ys)
@@ -74,6 +73,10 @@ functional-rows = refl
 inequality-rows : Hold inequalityRows
 unfolding opened inequalityRows
 inequality-rows = refl
+
+noise-rows : Hold noiseRows
+unfolding opened noiseRows
+noise-rows = refl
 
 refusal-rows : Hold refusalRows
 unfolding opened refusalRows
@@ -87,5 +90,6 @@ chart-rows = refl
 pub further : Hold furtherRows
 unfolding furtherRows
 further =
-    both functionalRows (inequalityRows ++ (refusalRows ++ chartRows)) functional-rows
-    (both inequalityRows (refusalRows ++ chartRows) inequality-rows (both refusalRows chartRows refusal-rows chart-rows))
+    both functionalRows (inequalityRows ++ (noiseRows ++ (refusalRows ++ chartRows))) functional-rows
+    (both inequalityRows (noiseRows ++ (refusalRows ++ chartRows)) inequality-rows
+    (both noiseRows (refusalRows ++ chartRows) noise-rows (both refusalRows chartRows refusal-rows chart-rows)))

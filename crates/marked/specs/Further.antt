@@ -34,8 +34,8 @@ functionalRows =
     runsOut (plainly L2 (halves 1) 2 (wholes (0 ∷ 1 ∷ 0 ∷ 0 ∷ [])) 2)
     -- Q2 the balls in which candidates lose cut a third away
     ∷ finds (plainly L2 (halves 3) 2 (wholes (0 ∷ 2 ∷ 1 ∷ 0 ∷ [])) 2) 0 (7 ∷ 7 ∷ [])
-    -- Q3 199 floats are no slot for the candidate at the start
-    ∷ runsOut (within (sevens 2 20 15 199) false L2 (custom 1) 2 gap (4 ∷ []))
+    -- Q3 599 floats are two slots
+    ∷ runsOut (within (sevens 2 20 15 599) false L2 (custom 1) 2 gap (4 ∷ []))
     -- Q4 no slot for the birth at t = n
     ∷ runsOut (plainly L2 (custom 1) 2 gap 2)
     -- Q5 a NaN penalty goes on
@@ -69,25 +69,30 @@ inequalityRows =
     ∷ finds (among false L2 (custom 1) 2 (replicate 12 +0 ++ wholes (0 ∷ 0 ∷ 6 ∷ 6 ∷ 0 ∷ 0 ∷ [])) (6 ∷ 6 ∷ 6 ∷ []) 0) 2 (2 ∷ 4 ∷ 7 ∷ [])
     -- Q17 a custom penalty counts once for each channel
     ∷ finds (among false L2 (custom 1) 2 (level ++ wholes (0 ∷ 0 ∷ 1 ∷ 1 ∷ 0 ∷ 0 ∷ 1 ∷ 1 ∷ [])) (4 ∷ 4 ∷ 4 ∷ []) 0) 0 (7 ∷ 7 ∷ [])
-    -- Q18 noise: the differences in order, the middle one of three, its floor, the last channel's too
-    ∷ finds (among false L2 Bic 2 (replicate 8 +0 ++ step) (4 ∷ 4 ∷ 4 ∷ []) 0) 1 (2 ∷ 7 ∷ [])
-    -- Q19 noise: the middle one of three, squared
-    ∷ finds (among false L2 Bic 2 (replicate 8 +0 ++ wholes (1 ∷ 3 ∷ 0 ∷ 0 ∷ [])) (4 ∷ 4 ∷ 4 ∷ []) 0) 0 (7 ∷ 7 ∷ [])
-    -- Q20 noise: of four not the upper middle one alone; the root of 2
-    ∷ finds (among false L2 Bic 2 (replicate 10 +0 ++ wholes (0 ∷ 0 ∷ 3 ∷ 1 ∷ 1 ∷ [])) (5 ∷ 5 ∷ 5 ∷ []) 0) 1 (2 ∷ 7 ∷ [])
-    -- Q21 noise: of four not the lower middle one alone
-    ∷ finds (among false L2 Bic 2 (replicate 10 +0 ++ wholes (0 ∷ 5 ∷ 0 ∷ 0 ∷ 0 ∷ [])) (5 ∷ 5 ∷ 5 ∷ []) 0) 0 (7 ∷ 7 ∷ [])
-    -- Q22 no channels at all
-    ∷ finds (among true L2 Bic 2 [] [] 0) 0 []
-    -- Q23 eight channels, without readings
-    ∷ finds (among true L2 Bic 2 [] (replicate 8 0) 0) 0 []
     ∷ []
 
--- ---- refusals before 9
+-- ---- the noise of BIC
+unfoldable pub noiseRows : List Row
+noiseRows =
+    -- Q18 the differences in order, the middle one of three, its floor, the last channel's too
+    finds (among false L2 Bic 2 (replicate 8 +0 ++ step) (4 ∷ 4 ∷ 4 ∷ []) 0) 1 (2 ∷ 7 ∷ [])
+    -- Q19 the middle one of three, squared
+    ∷ finds (among false L2 Bic 2 (replicate 8 +0 ++ wholes (1 ∷ 3 ∷ 0 ∷ 0 ∷ [])) (4 ∷ 4 ∷ 4 ∷ []) 0) 0 (7 ∷ 7 ∷ [])
+    -- Q20 of four not the upper middle one alone; the root of 2; F(0) is minus the penalty: what is left of a tie
+    ∷ finds (plainly L2 Bic 2 (wholes (5 ∷ 3 ∷ 2 ∷ 0 ∷ 0 ∷ [])) 3) 1 (2 ∷ 7 ∷ [])
+    -- Q21 of four not the lower middle one alone
+    ∷ finds (among false L2 Bic 2 (replicate 10 +0 ++ wholes (0 ∷ 5 ∷ 0 ∷ 0 ∷ 0 ∷ [])) (5 ∷ 5 ∷ 5 ∷ []) 0) 0 (7 ∷ 7 ∷ [])
+    ∷ []
+
+-- ---- channels and refusals before 9
 unfoldable pub refusalRows : List Row
 refusalRows =
+    -- Q22 no channels at all
+    finds (among true L2 Bic 2 [] [] 0) 0 []
+    -- Q23 eight channels, without readings
+    ∷ finds (among true L2 Bic 2 [] (replicate 8 0) 0) 0 []
     -- Q24 an infinite penalty
-    refuses (plainly L2 (Custom +∞) 2 step 2) (plain 1)
+    ∷ refuses (plainly L2 (Custom +∞) 2 step 2) (plain 1)
     -- Q25 one that is no number
     ∷ refuses (plainly L2 (Custom nan) 2 step 2) (plain 1)
     -- Q26 one below 0
@@ -164,4 +169,4 @@ chartRows =
     ∷ []
 
 unfoldable pub furtherRows : List Row
-furtherRows = functionalRows ++ (inequalityRows ++ (refusalRows ++ chartRows))
+furtherRows = functionalRows ++ (inequalityRows ++ (noiseRows ++ (refusalRows ++ chartRows)))
