@@ -1,7 +1,7 @@
 use mathlib.Core.Path.{refl, _∙_}
-use Prim.Native.Nat.{_-_}
+use Prim.Native.Nat.{_-_, _+_, _*_}
 use native.Mathlib.Omega.{arith}
-use lib.ListN.{length-set}
+use lib.ListN.{set, length-set}
 use borrow.Author.Needs.{needs}
 use Rattle.functional.proofs.partition.begin.Statement.{statement}
 use Rattle.functional.proofs.partition.begin.Tie as tie
@@ -13,10 +13,10 @@ add-w : tie.Need-add-w
 add-w c = search needs
 
 channel-sums-requires : tie.Need-channel-sums-requires
-channel-sums-requires c κs = search needs
+channel-sums-requires c κs = tt
 
 clear-floats-requires : tie.Need-clear-floats-requires
-clear-floats-requires c κs = search needs
+clear-floats-requires c κs = tt
 
 mul-floats : tie.Need-mul-floats
 mul-floats c = search needs
@@ -25,7 +25,7 @@ slice-write-floats : tie.Need-slice-write-floats
 slice-write-floats c = search needs
 
 clear-indices-requires : tie.Need-clear-indices-requires
-clear-indices-requires c κs = search needs
+clear-indices-requires c κs = tt
 
 mul-indices : tie.Need-mul-indices
 mul-indices c = search needs
@@ -54,10 +54,13 @@ same-length c =
     length-set (c .before .before .before .before .before .before .before .before .before .before .before .before .clear-floats .last .0) (a .plan .f) (neg (a .plan .penalty)) ∙ c .before .before .before .before .before .before .before .before .before .before .before .before .clear-floats .kept .0 ∙ c .before .before .before .before .before .before .before .before .before .before .before .before .before .before .before .before .channel-sums .kept .1 .1 .1 .0
 
 same-length-2 : tie.Need-same-length-2
-same-length-2 c = search needs
+same-length-2 c =
+    let q = c .before .before .before .before .before .before .before .before .before .before .before .before .before .before .before .before .before .before .before .before .before .before .before .args .plan in
+    let k = c .before .before .before .before .before .before .before .clear-indices in
+    length-set (set (k .last .0) (q .n + 1) 0) (2 * (q .n + 1)) 0 ∙ length-set (k .last .0) (q .n + 1) 0 ∙ k .kept .0
 
 same-length-3 : tie.Need-same-length-3
-same-length-3 c = search needs
+same-length-3 c = c .before .before .put-box .kept .0
 
 returns : tie.Need-returns
 returns c =

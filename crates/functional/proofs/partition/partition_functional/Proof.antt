@@ -1,7 +1,6 @@
 use mathlib.Core.Path.{refl, sym, _∙_}
 use Prim.Native.Nat.{_-_}
 use native.Mathlib.Omega.{arith}
-use borrow.Author.Needs.{needs}
 use Rattle.functional.proofs.partition.partition_functional.Statement.{statement}
 use Rattle.functional.proofs.partition.partition_functional.Tie as tie
 use denote.Ref.{now}
@@ -9,7 +8,7 @@ use Rattle.recurrence.proofs.RoomLaws.{fits-series}
 use Rattle.functional.proofs.PartitionLaws.{fit-one, fit-two, fit-search, partitioned, unfit}
 
 task-fits-requires : tie.Need-task-fits-requires
-task-fits-requires c κs = search needs
+task-fits-requires c κs = tt
 
 search-all-requires : tie.Need-search-all-requires
 search-all-requires c κs =
@@ -17,10 +16,10 @@ search-all-requires c κs =
     (fit-one _ _ _ _ _ _ e, fit-two _ _ _ _ _ _ e, fit-search _ _ _ _ _ _ e)
 
 clear-floats-requires : tie.Need-clear-floats-requires
-clear-floats-requires c κs = search needs
+clear-floats-requires c κs = tt
 
 clear-floats-requires-2 : tie.Need-clear-floats-requires-2
-clear-floats-requires-2 c κs = search needs
+clear-floats-requires-2 c κs = tt
 
 add-kept-front : tie.Need-add-kept-front
 add-kept-front c =
@@ -29,19 +28,19 @@ add-kept-front c =
     omega (arith, s .short)
 
 kept-front-requires : tie.Need-kept-front-requires
-kept-front-requires c κs = search needs
+kept-front-requires c κs = tt
 
 clear-indices-requires : tie.Need-clear-indices-requires
-clear-indices-requires c κs = search needs
+clear-indices-requires c κs = tt
 
 same-length : tie.Need-same-length
-same-length c = search needs
+same-length c = c .before .before .before .before .before .before .before .before .before .before .before .clear-floats .kept .0 ∙ c .before .before .before .before .before .before .before .before .before .before .before .before .before .before .before .before .before .before .before .search-all .kept .1 .1 .1 .1 .1 .0
 
 same-length-2 : tie.Need-same-length-2
-same-length-2 c = search needs
+same-length-2 c = c .before .before .clear-indices .kept .0 ∙ c .before .before .before .before .before .before .before .before .before .before .before .before .before .before .before .before .before .before .before .search-all .kept .1 .1 .1 .1 .1 .1 .0
 
 same-length-3 : tie.Need-same-length-3
-same-length-3 c = search needs
+same-length-3 c = c .before .before .before .before .before .before .before .clear-floats2 .kept .0 ∙ c .before .before .before .before .before .before .before .before .before .before .before .before .before .before .before .before .before .before .before .search-all .kept .1 .1 .1 .1 .1 .1 .1 .0
 
 returns : tie.Need-returns
 returns c =

@@ -25,7 +25,7 @@ mul-t15 c =
     omega (arith, sums-small (a .n) (a .channels) (s .few) (s .short))
 
 range-box-requires : tie.Need-range-box-requires
-range-box-requires c κs = search needs
+range-box-requires c κs = tt
 
 begin-requires : tie.Need-begin-requires
 begin-requires c κs =
@@ -38,16 +38,16 @@ slice-aggregate-search : tie.Need-slice-aggregate-search
 slice-aggregate-search c = search needs
 
 search-requires : tie.Need-search-requires
-search-requires c κs = search needs
+search-requires c κs = (c .before .before .before .before .before .before .before .before .before .before .begin .ensures, refl)
 
 same-length : tie.Need-same-length
-same-length c = search needs
+same-length c = c .before .before .before .before .before .before .before .search .kept .1 .0 ∙ c .before .before .before .before .before .before .before .before .before .before .before .before .before .before .before .before .before .before .begin .kept .1 .0
 
 same-length-2 : tie.Need-same-length-2
-same-length-2 c = search needs
+same-length-2 c = c .before .before .before .before .before .before .before .search .kept .1 .1 .0 ∙ c .before .before .before .before .before .before .before .before .before .before .before .before .before .before .before .before .before .before .begin .kept .1 .1 .0
 
 same-length-3 : tie.Need-same-length-3
-same-length-3 c = search needs
+same-length-3 c = c .before .before .before .before .before .before .before .search .kept .1 .1 .1 .0 ∙ c .before .before .before .before .before .before .before .before .before .before .before .before .before .before .before .before .before .before .begin .kept .1 .1 .1 .0
 
 returns-2 : tie.Need-returns-2
 returns-2 c = ran (c .before .before .before .before .before .before .before .search .ensures)

@@ -1,5 +1,5 @@
 use mathlib.Core.Path.{refl, _∙_}
-use Prim.Native.Nat.{_-_}
+use Prim.Native.Nat.{_-_, _+_}
 use native.Mathlib.Omega.{arith}
 use lib.ListN.{length-set}
 use borrow.Author.Needs.{needs}
@@ -38,10 +38,14 @@ sub-b : tie.Need-sub-b
 sub-b c = search needs
 
 same-length : tie.Need-same-length
-same-length c = search needs
+same-length c =
+    let a = c .before .before .before .before .before .before .before .before .before .args in
+    length-set (now (a .floats)) (a .plan .f + a .t) (c .before .best-of .result .cost)
 
 same-length-2 : tie.Need-same-length-2
-same-length-2 c = search needs
+same-length-2 c =
+    let a = c .before .before .before .before .before .before .before .before .before .args in
+    length-set (now (a .indices)) (a .t) (c .before .best-of .result .tau)
 
 returns : tie.Need-returns
 returns c =
@@ -68,16 +72,18 @@ birth-requires c κs =
     (omega (arith, p .1, r .some), h .few, omega (arith, h .fewer, p .1, r .some), sums-noted run (a .plan) xs ix pool (a .count) (a .t) h (p .1) (d .result) k _ refl, room-noted run (a .plan) xs ix pool (a .count) (a .t) h (p .1) (d .result) k _ refl, below-marked run (a .plan) xs ix pool (a .count) (a .t) h (p .1) (d .result) k _ refl l, sane-marked run (a .plan) xs ix pool (a .count) (a .t) h (p .1) (d .result) k _ refl, p .2, h .range)
 
 same-length-3 : tie.Need-same-length-3
-same-length-3 c = search needs
+same-length-3 c =
+    let a = c .before .before .before .before .before .before .before .before .before .before .before .before .before .before .before .before .before .before .before .before .args in
+    length-set (now (a .floats)) (a .plan .f + a .t) (c .before .before .before .before .before .before .before .before .before .before .before .before .best-of .result .cost)
 
 same-length-4 : tie.Need-same-length-4
 same-length-4 c = c .before .before .before .before .before .before .birth .ensures .frame .long ∙ length-set (now (c .before .before .before .before .before .before .before .before .before .before .before .before .before .before .before .before .before .before .before .before .args .indices)) (c .before .before .before .before .before .before .before .before .before .before .before .before .before .before .before .before .before .before .before .before .args .t) (c .before .before .before .before .before .before .before .before .before .before .before .before .best-of .result .tau)
 
 same-length-5 : tie.Need-same-length-5
-same-length-5 c = search needs
+same-length-5 c = c .before .before .before .before .before .before .birth .kept .1 .1 .1 .0
 
 same-length-6 : tie.Need-same-length-6
-same-length-6 c = search needs
+same-length-6 c = c .before .before .before .before .before .before .birth .kept .1 .1 .1 .1 .0
 
 returns-2 : tie.Need-returns-2
 returns-2 c =

@@ -2,7 +2,6 @@ use mathlib.Core.Path.{_≡_, refl, sym, _∙_}
 use Prim.Native.Nat.{_≤_, _*_, _-_, _+_}
 use native.Mathlib.Omega.{arith}
 use lib.ListN.{length}
-use borrow.Author.Needs.{needs}
 use Rattle.inequality.proofs.pruned.partition_pruned.Statement.{statement}
 use Rattle.inequality.proofs.pruned.partition_pruned.Tie as tie
 use denote.Ref.{now}
@@ -13,7 +12,7 @@ use Rattle.sums.proofs.ChannelLaws.{sums-small}
 use Rattle.inequality.proofs.PrunedLaws.{plan-room, pruned-found, pruned-kept}
 
 search-fits-requires : tie.Need-search-fits-requires
-search-fits-requires c κs = search needs
+search-fits-requires c κs = tt
 
 -- the search fits, and the products with it
 fits : (c : tie.Then1) → let a = c .before .before .before .before .before .args in searchFits (length (now (a .run))) (a .n) (a .channels) (a .m) (length (now (a .floats))) (length (now (a .indices))) ≡ true
@@ -46,16 +45,16 @@ search-requires : tie.Need-search-requires
 search-requires c κs = (c .before .before .before .before .before .before .begin .ensures, series (c .before .before .before .before .before .before .before .before .before) .ripe)
 
 clear-floats-requires : tie.Need-clear-floats-requires
-clear-floats-requires c κs = search needs
+clear-floats-requires c κs = tt
 
 clear-indices-requires : tie.Need-clear-indices-requires
-clear-indices-requires c κs = search needs
+clear-indices-requires c κs = tt
 
 same-length : tie.Need-same-length
-same-length c = search needs
+same-length c = c .before .before .before .before .before .before .clear-floats .kept .0 ∙ c .before .before .before .before .before .before .before .before .before .before .before .before .search .kept .1 .0 ∙ c .before .before .before .before .before .before .before .before .before .before .before .before .before .before .before .before .before .before .before .begin .kept .1 .0
 
 same-length-2 : tie.Need-same-length-2
-same-length-2 c = search needs
+same-length-2 c = c .before .before .clear-indices .kept .0 ∙ c .before .before .before .before .before .before .before .before .before .before .before .before .search .kept .1 .1 .0 ∙ c .before .before .before .before .before .before .before .before .before .before .before .before .before .before .before .before .before .before .before .begin .kept .1 .1 .0
 
 returns : tie.Need-returns
 returns c =

@@ -50,7 +50,10 @@ add-result : tie.Need-add-result
 add-result c = search needs
 
 same-length : tie.Need-same-length
-same-length c = search needs
+same-length c =
+    let a = c .before .before .before .before .before .before .before .before .before .before .before .before .before .before .before .args in
+    let s = c .before .before .before .before .before .before .before .before .before .scan in
+    length-set (s .last .1 .0) (a .plan .f + a .t) (s .result .cost) ∙ s .kept .1 .0
 
 same-length-2 : tie.Need-same-length-2
 same-length-2 c =
