@@ -101,13 +101,14 @@ fn find(
     )
 }
 
-// The cuts of the channels that stand one after the other in `run` and have these lengths, lowest
-// first, in the front of `cuts`. Afterwards the work areas are zero; a refusal other than 9 changes
-// nothing. Cost: that of the search which runs, and one turn for each lent place.
+// The cuts, in pieces of m readings or more, of the channels that stand one after the other in `run`
+// and have these lengths; lowest first, in the front of `cuts`. Afterwards the work areas are zero; a
+// refusal other than 9 changes nothing. Cost: that of the search which runs, and one turn for each lent
+// place.
 pub fn find_cuts(
     cost: CostFunction,
     penalty: Penalty,
-    min_segment_len: usize,
+    m: usize,
     strict: bool,
     run: &[f64],
     lengths: &[usize],
@@ -116,11 +117,11 @@ pub fn find_cuts(
     indices: &mut [usize],
     pool: &mut [f64],
 ) -> Searched
-    ensures { λ r. ⌜ Detected strict cost penalty «min_segment_len» (now (run .entry)) (now (lengths .entry)) (now (cuts .entry)) (now (cuts .exit)) (now (floats .entry)) (now (floats .exit)) (now (indices .entry)) (now (indices .exit)) (now (pool .entry)) (now (pool .exit)) r ⌝ }
+    ensures { λ r. ⌜ Detected strict cost penalty m (now (run .entry)) (now (lengths .entry)) (now (cuts .entry)) (now (cuts .exit)) (now (floats .entry)) (now (floats .exit)) (now (indices .entry)) (now (indices .exit)) (now (pool .entry)) (now (pool .exit)) r ⌝ }
 {
     let answer = admitted(
         penalty,
-        min_segment_len,
+        m,
         strict,
         run,
         lengths,
@@ -130,19 +131,9 @@ pub fn find_cuts(
     );
     match answer {
         Shaped::Refused(refusal) => Searched::Refused(refusal),
-        Shaped::Channels { count, length } => {
-            find(
-                cost,
-                penalty,
-                min_segment_len,
-                run,
-                length,
-                count,
-                cuts,
-                floats,
-                indices,
-                pool,
-            )
-        }
+        Shaped::Channels {
+            count: k,
+            length: n,
+        } => find(cost, penalty, m, run, n, k, cuts, floats, indices, pool),
     }
 }
