@@ -38,7 +38,7 @@ use Rattle.ewma.specs.Chart as Ewma
 use Rattle.marked.specs.Calls.{Call, Outcome, areasLeft, searchOutcome, writtenBy, outcome}
 use Rattle.marked.specs.Rows.{Row, Hold, sumsFrom, averagesFrom}
 use Rattle.marked.specs.Marked.{markedRows}
-use Rattle.marked.specs.Further.{functionalRows, inequalityRows, noiseRows, refusalRows, chartRows, furtherRows}
+use Rattle.marked.specs.Further.{functionalRows, inequalityRows, noiseRows, refusalRows, chartRows, ballRows, furtherRows}
 
 -- an outcome, opened: to unfold it is to unfold all that the line names
 opened : Call → Outcome
@@ -86,10 +86,15 @@ chart-rows : Hold chartRows
 unfolding opened chartRows
 chart-rows = refl
 
+ball-rows : Hold ballRows
+unfolding opened ballRows
+ball-rows = refl
+
 -- all of them
 pub further : Hold furtherRows
 unfolding furtherRows
 further =
-    both functionalRows (inequalityRows ++ (noiseRows ++ (refusalRows ++ chartRows))) functional-rows
-    (both inequalityRows (noiseRows ++ (refusalRows ++ chartRows)) inequality-rows
-    (both noiseRows (refusalRows ++ chartRows) noise-rows (both refusalRows chartRows refusal-rows chart-rows)))
+    both functionalRows (inequalityRows ++ (noiseRows ++ (refusalRows ++ (chartRows ++ ballRows)))) functional-rows
+    (both inequalityRows (noiseRows ++ (refusalRows ++ (chartRows ++ ballRows))) inequality-rows
+    (both noiseRows (refusalRows ++ (chartRows ++ ballRows)) noise-rows
+    (both refusalRows (chartRows ++ ballRows) refusal-rows (both chartRows ballRows chart-rows ball-rows))))

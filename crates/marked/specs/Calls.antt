@@ -1,11 +1,11 @@
 -- A call of a search or a chart, and what it comes to by the definitions that the contracts cite. Definitions only.
 use Prim.Native.Nat.{ℕ, _/_}
 use mathlib.Core.Bool.{Bool}
-use mathlib.Core.List.{List, [], _∷_}
+use mathlib.Core.List.{List, [], _∷_, map}
 use mathlib.Core.Option.{Option}
 use lib.ListN.{length}
-use lib.Ieee.{Float}
-use Rattle.floats.specs.Numbers.{+0}
+use lib.Ieee.{Float, eq}
+use Rattle.floats.specs.Numbers.{+0, whole}
 use Rattle.refusals.specs.Said.{Said, refused, answered, tried}
 use Rattle.refusals.specs.declared.Refusal.{Refusal}
 use Rattle.readings.specs.Shape.{firstLength}
@@ -19,6 +19,9 @@ use Rattle.cusum.specs.declared.Side.{Side}
 use Rattle.ewma.specs.Chart as Ewma
 use Rattle.ewma.specs.declared.Ewma.{Ewma}
 use Rattle.ewma.specs.declared.EwmaResult.{EwmaResult}
+use Rattle.candidate.specs.Boxes.{at}
+use Rattle.candidate.specs.Balls.{ballAt, loseInside}
+use Rattle.candidate.specs.declared.Ball.{Ball}
 use Rattle.admission.specs.Tests.{searchTests, passed}
 use Rattle.finding.specs.Search.{cutsFound}
 use Rattle.finding.specs.Left.{foundSaid, cutsLeft, areaLeft}
@@ -41,7 +44,7 @@ pub record Search : Type 0 where
   pub lengths : List ℕ
   pub areas : Areas
 
--- a search; a chart's `analyze` and `signal_points`, with what they are lent; a run length
+-- a search; a chart's `analyze` and `signal_points`, with what they are lent; a run length; one ball more for a candidate that loses inside these, and which ball is asked for at which place then, by the whole number that it is about
 pub data Call : Type 0 where
   search : Search → Call
   cusum : Cusum → List Float → List CusumResult → Call
@@ -49,14 +52,16 @@ pub data Call : Type 0 where
   runLength : Cusum → Float → Side → Call
   ewma : Ewma → List Float → List EwmaResult → Call
   ewmaPoints : Ewma → List Float → List ℕ → Call
+  lose : Ball → List Ball → List (ℕ × ℕ) → Call
 
--- ---- outcomes: what is said, and what is left of what was lent
+-- ---- outcomes: what is said, and what is left of what was lent; of balls their number, and whether they are those asked for
 pub data Outcome : Type 0 where
   searched : Said → Areas → Outcome
   sums : Said → List CusumResult → Outcome
   averages : Said → List EwmaResult → Outcome
   points : Said → List ℕ → Outcome
   heard : Said → Outcome
+  losing : ℕ → List Bool → Outcome
 
 -- the areas that a search leaves, by the tests that come before 9 and the cuts that it finds
 unfoldable pub areasLeft : List (Bool × Refusal) → Option (List ℕ) → Areas → Areas
@@ -98,3 +103,6 @@ outcome (ewmaPoints c xs entry) =
     let found = Ewma.signalling c xs (length xs) in
     let said = chartAnswer (Ewma.accepted c) (length xs) (length entry) (length found ∷ []) in
     points said (writtenBy said found entry)
+outcome (lose b balls asked) =
+    let left = loseInside b balls in
+    losing (length left) (map (λ (q : ℕ × ℕ). eq (at (ballAt left (q .0) .centre) 0) (whole (q .1))) asked)

@@ -1,4 +1,4 @@
--- Rows of our own, Q1 to Q58: each catches a wrong program that the marked examples let pass. Definitions only.
+-- Rows of our own, Q1 to Q62: each catches a wrong program that the marked examples let pass. Definitions only.
 use Prim.Native.Nat.{_-_, _^_}
 use mathlib.Core.Bool.{true, false}
 use mathlib.Core.List.{List, [], _∷_, _++_}
@@ -8,11 +8,12 @@ use Rattle.floats.specs.Numbers.{+0, +∞, -∞, whole, ratio}
 use Rattle.refusals.specs.Stated.{plain}
 use Rattle.costs.specs.declared.CostFunction.the-variants.{L2, Normal}
 use Rattle.costs.specs.declared.Penalty.the-variants.{Bic, Custom}
+use Rattle.candidate.specs.declared.Ball.{Ball}
 use Rattle.cusum.specs.Chart as Cusum
 use Rattle.cusum.specs.declared.Cusum.{Cusum}
 use Rattle.cusum.specs.declared.Side.the-variants.{Upper, Lower}
 use Rattle.ewma.specs.Chart as Ewma
-use Rattle.marked.specs.Rows.{Row, wholes, custom, halves, sevens, within, among, plainly, strictly, finds, runsOut, refuses, gapAt, sumsAre, averagesAre, sumsSignal, averagesSignal, sumsRefuse, averagesRefuse, hears, refusesToHear}
+use Rattle.marked.specs.Rows.{Row, wholes, custom, halves, sevens, within, among, plainly, strictly, finds, runsOut, refuses, gapAt, sumsAre, averagesAre, sumsSignal, averagesSignal, sumsRefuse, averagesRefuse, hears, refusesToHear, ball, keeps}
 use Rattle.marked.specs.Marked.{step, gap, sums, averages}
 
 -- four readings alike
@@ -82,91 +83,109 @@ noiseRows =
     ∷ finds (plainly L2 Bic 2 (wholes (5 ∷ 3 ∷ 2 ∷ 0 ∷ 0 ∷ [])) 3) 1 (2 ∷ 7 ∷ [])
     -- Q21 of four not the lower middle one alone
     ∷ finds (among false L2 Bic 2 (replicate 10 +0 ++ wholes (0 ∷ 5 ∷ 0 ∷ 0 ∷ 0 ∷ [])) (5 ∷ 5 ∷ 5 ∷ []) 0) 0 (7 ∷ 7 ∷ [])
+    -- Q22 NaN differences last: of 0, 1e-158, 1e-158, NaN, NaN the middle one makes a penalty above 0, and there are no slots
+    ∷ runsOut (plainly L2 Bic 2 (+0 ∷ +0 ∷ ratio 1 (10 ^ 158) ∷ +0 ∷ nan ∷ +0 ∷ []) 0)
     ∷ []
 
 -- ---- channels and refusals before 9
 unfoldable pub refusalRows : List Row
 refusalRows =
-    -- Q22 no channels at all
+    -- Q23 no channels at all
     finds (among true L2 Bic 2 [] [] 0) 0 []
-    -- Q23 eight channels, without readings
+    -- Q24 eight channels, without readings
     ∷ finds (among true L2 Bic 2 [] (replicate 8 0) 0) 0 []
-    -- Q24 an infinite penalty
+    -- Q25 an infinite penalty
     ∷ refuses (plainly L2 (Custom +∞) 2 step 2) (plain 1)
-    -- Q25 one that is no number
+    -- Q26 one that is no number
     ∷ refuses (plainly L2 (Custom nan) 2 step 2) (plain 1)
-    -- Q26 one below 0
+    -- Q27 one below 0
     ∷ refuses (plainly L2 (Custom (neg (whole 1))) 2 step 2) (plain 1)
-    -- Q27 2 before 3
+    -- Q28 2 before 3
     ∷ refuses (among false L2 (custom 1) 1 [] (replicate 9 0) 0) (plain 2)
-    -- Q28 3 before 4
+    -- Q29 3 before 4
     ∷ refuses (among false L2 (custom 1) 2 level (replicate 9 0) 0) (plain 3)
-    -- Q29 4 before 5
+    -- Q30 4 before 5
     ∷ refuses (among false L2 (custom 1) 2 level (1 ∷ 2 ∷ []) 0) (plain 4)
-    -- Q30 lengths that add up only where their sum wraps
+    -- Q31 lengths that add up only where their sum wraps
     ∷ refuses (within (sevens 2 40 15 0) false L2 (custom 1) 2 level (4 ∷ (2 ^ 64 - 4) ∷ 4 ∷ [])) (plain 4)
-    -- Q31 no lengths for four readings
+    -- Q32 no lengths for four readings
     ∷ refuses (among false L2 (custom 1) 2 level [] 0) (plain 4)
-    -- Q32 5 before 6
+    -- Q33 5 before 6
     ∷ refuses (within (sevens 0 0 0 0) false L2 (custom 1) (2 ^ 63) tooMany (4097 ∷ 0 ∷ [])) (plain 5)
-    -- Q33 6 before 7
+    -- Q34 6 before 7
     ∷ refuses (within (sevens 0 0 0 0) false L2 (custom 1) (2 ^ 63) tooMany (4097 ∷ [])) (plain 6)
-    -- Q34 4,096 readings are not too many, and ask for room
+    -- Q35 4,096 readings are not too many, and ask for room
     ∷ refuses (within (sevens 0 0 0 0) false L2 (custom 1) (2 ^ 63) (replicate 4096 +0) (4096 ∷ [])) (plain 7)
-    -- Q35 7 before 8: a cut short
+    -- Q36 7 before 8: a cut short
     ∷ refuses (within (sevens 1 20 15 400) true L2 (custom 1) 2 gap (4 ∷ [])) (plain 7)
-    -- Q36 7 before 9: a float short
+    -- Q37 7 before 9: a float short
     ∷ refuses (within (sevens 2 19 15 0) false L2 (custom 1) 2 step (4 ∷ [])) (plain 7)
-    -- Q37 an index short, also where no search is run
+    -- Q38 an index short, also where no search is run
     ∷ refuses (within (sevens 2 20 14 0) false L2 (custom 1) 3 step (4 ∷ [])) (plain 7)
-    -- Q38 8 before 9
+    -- Q39 8 before 9
     ∷ refuses (strictly L2 (custom 1) 2 gap 0) (gapAt 0 1)
-    -- Q39 8 also where no search is run
+    -- Q40 8 also where no search is run
     ∷ refuses (strictly L2 (custom 1) 3 gap 0) (gapAt 0 1)
-    -- Q40 an infinity
+    -- Q41 an infinity
     ∷ refuses (strictly L2 (custom 1) 2 (whole 0 ∷ whole 0 ∷ whole 4 ∷ -∞ ∷ []) 2) (gapAt 0 3)
-    -- Q41 the lowest channel first, then the lowest index
+    -- Q42 the lowest channel first, then the lowest index
     ∷ refuses (among true L2 (custom 1) 2 (wholes (0 ∷ 0 ∷ 4 ∷ []) ++ (nan ∷ nan ∷ wholes (0 ∷ 4 ∷ 4 ∷ []))) (4 ∷ 4 ∷ []) 3) (gapAt 0 3)
-    -- Q42 a gap in the second channel
+    -- Q43 a gap in the second channel
     ∷ refuses (among true L2 (custom 1) 2 (level ++ gap) (4 ∷ 4 ∷ []) 3) (gapAt 1 1)
-    -- Q43 a strict search of finite readings, with more room than is asked for: the rest of the cuts area is as it was, all else is zero
+    -- Q44 a strict search of finite readings, with more room than is asked for: the rest of the cuts area is as it was, all else is zero
     ∷ finds (within (sevens 4 21 16 401) true L2 (custom 1) 2 step (4 ∷ [])) 1 (2 ∷ 7 ∷ 7 ∷ 7 ∷ [])
     ∷ []
 
 -- ---- charts
 unfoldable pub chartRows : List Row
 chartRows =
-    -- Q44 a signal resets nothing
+    -- Q45 a signal resets nothing
     sumsAre sums (wholes (8 ∷ 0 ∷ [])) ((ratio 15 2, +0, true) ∷ (whole 7, +0, true) ∷ [])
-    -- Q45 the lower sum
+    -- Q46 the lower sum
     ∷ sumsAre sums (neg (whole 8) ∷ whole 8 ∷ []) ((+0, ratio 15 2, true) ∷ (ratio 15 2, +0, true) ∷ [])
-    -- Q46 infinity less infinity is no number, and the sum 0
+    -- Q47 infinity less infinity is no number, and the sum 0
     ∷ sumsAre (Cusum.newOf +0 (ratio 1 (10 ^ 300))) (ratio (10 ^ 300) 1 ∷ neg (ratio (10 ^ 300) 1) ∷ []) ((+∞, +0, true) ∷ (+0, +∞, true) ∷ [])
-    -- Q47 a gap is no signal, and its index is used up
+    -- Q48 a gap is no signal, and its index is used up
     ∷ sumsSignal sums (whole 8 ∷ nan ∷ whole 8 ∷ []) 2 (0 ∷ 2 ∷ 7 ∷ [])
-    -- Q48 11 before 6
+    -- Q49 11 before 6
     ∷ sumsRefuse badSums tooMany 0 (plain 11)
-    -- Q49 6 before 7
+    -- Q50 6 before 7
     ∷ sumsRefuse sums tooMany 0 (plain 6)
-    -- Q50 4,096 readings are not too many, and a record short
+    -- Q51 4,096 readings are not too many, and a record short
     ∷ sumsRefuse sums (replicate 4096 +0) 4095 (plain 7)
-    -- Q51 the run length of the lower side
+    -- Q52 the run length of the lower side
     ∷ hears sums (neg (whole 3)) Lower 3
-    -- Q52 11 before 8
+    -- Q53 11 before 8
     ∷ refusesToHear badSums nan Upper (plain 11)
-    -- Q53 a level that is not finite
+    -- Q54 a level that is not finite
     ∷ refusesToHear sums +∞ Upper (gapAt 0 0)
-    -- Q54 a gap is no signal of an EWMA
+    -- Q55 a gap is no signal of an EWMA
     ∷ averagesAre averages (whole 4 ∷ nan ∷ []) ((whole 4, neg (whole 3), whole 3, true) ∷ (whole 4, neg (whole 3), whole 3, false) ∷ [])
-    -- Q55 limits by the place, from 1: with lambda 0.5 and L 4 the first are -2 and 2
+    -- Q56 limits by the place, from 1: with lambda 0.5 and L 4 the first are -2 and 2
     ∷ averagesAre (Ewma.withParams +0 (whole 1) (ratio 1 2) (whole 4)) (whole 1 ∷ []) ((ratio 1 2, neg (whole 2), whole 2, false) ∷ [])
-    -- Q56 the second are beyond 2.125
+    -- Q57 the second are beyond 2.125
     ∷ averagesSignal (Ewma.withParams +0 (whole 1) (ratio 1 2) (whole 4)) (whole 0 ∷ ratio 17 4 ∷ []) 0 (7 ∷ 7 ∷ [])
-    -- Q57 and below 2.25
+    -- Q58 and below 2.25
     ∷ averagesSignal (Ewma.withParams +0 (whole 1) (ratio 1 2) (whole 4)) (whole 0 ∷ ratio 9 2 ∷ []) 1 (1 ∷ 7 ∷ [])
-    -- Q58 lambda 0, and no room
+    -- Q59 lambda 0, and no room
     ∷ averagesRefuse (Ewma.withParams +0 (whole 1) +0 (whole 3)) (wholes (3 ∷ [])) 0 (plain 11)
     ∷ []
 
+-- ---- the balls of a candidate, of which it keeps 64
+
+-- two of them are the narrowest, at places 1 and 2
+abbrev full : List Ball
+full = ball 0 (whole 5) ∷ ball 1 (whole 1) ∷ ball 2 (whole 1) ∷ (replicate 60 (ball 3 (whole 5)) ++ (ball 4 (whole 5) ∷ []))
+
+unfoldable pub ballRows : List Row
+ballRows =
+    -- Q60 the last ball moves into the place of the earliest narrowest one, and the 65th goes last
+    keeps (ball 5 (whole 2)) full 64 0 4 2 5
+    -- Q61 a 65th as narrow as that is turned away
+    ∷ keeps (ball 5 (whole 1)) full 64 0 1 2 4
+    -- Q62 one whose radius is no number enters
+    ∷ keeps (ball 5 nan) full 64 0 4 2 5
+    ∷ []
+
 unfoldable pub furtherRows : List Row
-furtherRows = functionalRows ++ (inequalityRows ++ (noiseRows ++ (refusalRows ++ chartRows)))
+furtherRows = functionalRows ++ (inequalityRows ++ (noiseRows ++ (refusalRows ++ (chartRows ++ ballRows))))

@@ -17,8 +17,10 @@ use Rattle.cusum.specs.declared.CusumResult.{CusumResult}
 use Rattle.cusum.specs.declared.Side.{Side}
 use Rattle.ewma.specs.declared.Ewma.{Ewma}
 use Rattle.ewma.specs.declared.EwmaResult.{EwmaResult}
+use Rattle.candidate.specs.Boxes.{ballOf}
+use Rattle.candidate.specs.declared.Ball.{Ball}
 use Rattle.pelt.specs.Detected.{withMinSegmentLen}
-use Rattle.marked.specs.Calls.{Areas, Search, Call, search, cusum, cusumPoints, runLength, ewma, ewmaPoints, Outcome, searched, sums, averages, points, heard, outcome}
+use Rattle.marked.specs.Calls.{Areas, Search, Call, search, cusum, cusumPoints, runLength, ewma, ewmaPoints, lose, Outcome, searched, sums, averages, points, heard, losing, outcome}
 
 -- a call, and what it is to come to
 pub record Row : Type 0 where
@@ -133,3 +135,14 @@ hears c level side reading = record { call = runLength c level side; expected = 
 
 abbrev pub refusesToHear : Cusum → Float → Side → Stated → Row
 refusesToHear c level side reason = record { call = runLength c level side; expected = heard (refused reason) }
+
+-- ---- balls
+
+-- a ball about a whole number, with this square of its radius
+abbrev pub ball : ℕ → Float → Ball
+ball centre r2 = ballOf (whole centre) +0 r2
+
+-- how many balls a candidate keeps once it loses inside one more, and about which whole numbers those at places 0, 1, 2 and 63 are
+abbrev pub keeps : Ball → List Ball → ℕ → ℕ → ℕ → ℕ → ℕ → Row
+keeps b balls count c0 c1 c2 c63 =
+    record { call = lose b balls ((0, c0) ∷ (1, c1) ∷ (2, c2) ∷ (63, c63) ∷ []); expected = losing count (true ∷ true ∷ true ∷ true ∷ []) }
