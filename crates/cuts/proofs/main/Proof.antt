@@ -1,0 +1,48 @@
+-- `cuts::main` is safe: the output that `fields::answer` promises is a part of its bytes. Assumes nothing.
+use mathlib.Core.Path.{sym}
+use borrow.Author.Needs.{needs}
+use lib.Seq.{length-take-le}
+use Rattle.fields.proofs.AnswerLaws.{answer-inside}
+use Rattle.cuts.proofs.main.Statement.{statement}
+use Rattle.cuts.proofs.main.Tie as tie
+
+slice-aggregate-read-full : tie.Need-slice-aggregate-read-full
+slice-aggregate-read-full c = search needs
+
+read-full-requires : tie.Need-read-full-requires
+read-full-requires c κs = tt
+
+array-share-prefix-input : tie.Need-array-share-prefix-input
+array-share-prefix-input c = search needs
+
+slice-aggregate-answer : tie.Need-slice-aggregate-answer
+slice-aggregate-answer c = search needs
+
+answer-requires : tie.Need-answer-requires
+answer-requires c κs = tt
+
+array-share-prefix-bytes : tie.Need-array-share-prefix-bytes
+array-share-prefix-bytes c = answer-inside (c .before .answer .ensures)
+
+slice-aggregate-write-all : tie.Need-slice-aggregate-write-all
+slice-aggregate-write-all c = sym (length-take-le _ _ (answer-inside (c .before .before .answer .ensures)))
+
+write-all-requires : tie.Need-write-all-requires
+write-all-requires c κs = tt
+
+returns : tie.Need-returns
+returns c = tt
+
+pub main-spec : {M : Type 1} → statement M
+main-spec =
+    tie.close
+    (tie.spec
+    slice-aggregate-read-full
+    read-full-requires
+    array-share-prefix-input
+    slice-aggregate-answer
+    answer-requires
+    array-share-prefix-bytes
+    slice-aggregate-write-all
+    write-all-requires
+    returns)

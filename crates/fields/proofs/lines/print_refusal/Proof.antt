@@ -1,0 +1,66 @@
+use mathlib.Core.Path.{_≡_, refl, sym, ap, _∙_}
+use mathlib.Core.List.{List, [], _∷_, _++_}
+use mathlib.Core.Logic.{⊎-elim}
+use Prim.Native.Nat.{ℕ, suc, _≤_, _<_, _*_, _-_, _+_}
+use native.Mathlib.Omega.{arith}
+use native.Mathlib.Numerals.{add-one}
+use native.Mathlib.Nat.{le-antisymm}
+use lib.ListN.{length, getD, take, drop, set, length-set}
+use lib.Ieee.{Float, nan}
+use borrow.Author.Needs.{needs}
+use Rattle.fields.specs.Lines.{spaced}
+use lib.Seq.{length-take-le}
+use Rattle.refusals.specs.Stated.{stated}
+use Rattle.fields.specs.Lines.{newline, refusedWord}
+use Prim.Native.Nat.{_^_}
+use Rattle.fields.proofs.LineLaws.{decimal-short, spaced-short, cuts-text, refused-text, written-none, written-then, written-as, written-long}
+use Rattle.fields.proofs.lines.print_refusal.Statement.{statement}
+use Rattle.fields.proofs.lines.print_refusal.Tie as tie
+use Rattle.fields.proofs.lines.print_refusal.Reads as reads
+use Rattle.fields.proofs.lines.print_refusal.Lts as lts
+use Rattle.fields.proofs.lines.put_byte.Reads as put-byte-reads
+use Rattle.fields.proofs.lines.put_spaced.Reads as put-spaced-reads
+use Rattle.fields.proofs.lines.put_values.Reads as put-values-reads
+use Rattle.fields.proofs.lines.put_word.Reads as put-word-reads
+use Rattle.refusals.proofs.Refusal.number.Reads as number-reads
+
+slice-aggregate-put-word : tie.Need-slice-aggregate-put-word
+slice-aggregate-put-word c = refl
+
+put-word-requires : tie.Need-put-word-requires
+put-word-requires c κs = omega (arith, c .before .before .before .pre)
+
+number-requires : tie.Need-number-requires
+number-requires c κs = tt
+
+put-spaced-requires : tie.Need-put-spaced-requires
+put-spaced-requires c κs = omega (arith, c .before .before .before .before .before .before .before .before .pre, c .before .before .before .before .put-word .ensures .place, c .before .before .before .before .put-word .kept .1 .0)
+
+put-values-requires : tie.Need-put-values-requires
+put-values-requires c κs = omega (arith, spaced-short (c .before .before .before .before .before .number .result) (omega (arith, c .before .before .before .before .before .number .ok)), c .before .before .before .before .before .before .before .before .before .before .before .before .pre, c .before .before .before .before .before .before .before .before .put-word .ensures .place, c .before .before .before .put-spaced .ensures .place, c .before .before .before .put-spaced .kept .1 .0 ∙ c .before .before .before .before .before .before .before .before .put-word .kept .1 .0)
+
+put-byte-requires : tie.Need-put-byte-requires
+put-byte-requires c κs = omega (arith, spaced-short (c .before .before .before .before .before .before .before .before .before .number .result) (omega (arith, c .before .before .before .before .before .before .before .before .before .number .ok)), c .before .before .before .before .before .before .before .before .before .before .before .before .before .before .before .before .pre, c .before .before .before .before .before .before .before .before .before .before .before .before .put-word .ensures .place, c .before .before .before .before .before .before .before .put-spaced .ensures .place, c .before .before .before .put-values .ensures .1, c .before .before .before .put-values .kept .1 .0 ∙ c .before .before .before .before .before .before .before .put-spaced .kept .1 .0 ∙ c .before .before .before .before .before .before .before .before .before .before .before .before .put-word .kept .1 .0)
+
+same-length : tie.Need-same-length
+same-length c = c .before .before .put-byte .kept .1 .0 ∙ c .before .before .before .before .before .before .put-values .kept .1 .0 ∙ c .before .before .before .before .before .before .before .before .before .before .put-spaced .kept .1 .0 ∙ c .before .before .before .before .before .before .before .before .before .before .before .before .before .before .before .put-word .kept .1 .0
+
+returns : tie.Need-returns
+returns c = let s = spaced-short (c .before .before .before .before .before .before .before .before .before .before .before .before .number .result) (omega (arith, c .before .before .before .before .before .before .before .before .before .before .before .before .number .ok)) in
+    record {
+      written = written-as (ap (λ (k : ℕ). refusedWord ++ spaced (k ∷ []) ++ spaced (stated (c .before .before .before .before .before .before .before .before .before .before .before .before .before .before .before .before .before .before .before .args .refusal) .values) ++ (newline ∷ [])) (c .before .before .before .before .before .before .before .before .before .before .before .before .number .ensures) ∙ refused-text (c .before .before .before .before .before .before .before .before .before .before .before .before .before .before .before .before .before .before .before .args .refusal)) (written-then (written-then (written-then (c .before .before .before .before .before .before .before .before .before .before .before .before .before .before .before .put-word .ensures) (c .before .before .before .before .before .before .before .before .before .before .put-spaced .ensures)) (c .before .before .before .before .before .before .put-values .ensures .0)) (c .before .before .put-byte .ensures));
+      fits = omega (arith, s, c .before .before .before .before .before .before .before .before .before .before .before .before .before .before .before .before .before .before .before .pre, c .before .before .before .before .before .before .before .before .before .before .before .before .before .before .before .put-word .ensures .place, c .before .before .before .before .before .before .before .before .before .before .put-spaced .ensures .place, c .before .before .before .before .before .before .put-values .ensures .1, c .before .before .put-byte .ensures .place);
+    }
+
+pub print-refusal-spec : {M : Type 1} → statement M
+print-refusal-spec =
+    tie.close
+    (tie.spec
+    slice-aggregate-put-word
+    put-word-requires
+    number-requires
+    put-spaced-requires
+    put-values-requires
+    put-byte-requires
+    same-length
+    returns)

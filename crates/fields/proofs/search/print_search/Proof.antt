@@ -1,0 +1,66 @@
+use mathlib.Core.Path.{_≡_, refl, sym, ap, _∙_}
+use mathlib.Core.List.{List, [], _∷_, _++_}
+use mathlib.Core.Logic.{⊎-elim}
+use Prim.Native.Nat.{ℕ, suc, _≤_, _<_, _*_, _-_, _+_}
+use native.Mathlib.Omega.{arith}
+use native.Mathlib.Numerals.{add-one}
+use native.Mathlib.Nat.{le-antisymm}
+use lib.ListN.{length, getD, take, drop, set, length-set}
+use lib.Ieee.{Float, nan}
+use borrow.Author.Needs.{needs}
+use Rattle.fields.specs.Lines.{text}
+use mathlib.Core.Path.{subst}
+use Rattle.fields.specs.Held.{HasCuts, saidBy, RequestFits, requestAs}
+use Rattle.fields.proofs.AnswerLaws.{left-said, searched-said, front-as, output-of, answered-by}
+use Rattle.fields.proofs.search.print_search.Statement.{statement}
+use Rattle.fields.proofs.search.print_search.Tie as tie
+use Rattle.fields.proofs.search.print_search.Reads as reads
+use Rattle.fields.proofs.search.print_search.Lts as lts
+use Rattle.fields.proofs.search.print_searched.Reads as print-searched-reads
+use Rattle.pelt.proofs.Pelt.detect_multi_strict.Reads as detect-multi-strict-reads
+use Rattle.pelt.proofs.Pelt.with_min_segment_len.Reads as with-min-segment-len-reads
+
+with-min-segment-len-requires : tie.Need-with-min-segment-len-requires
+with-min-segment-len-requires c κs = tt
+
+slice-aggregate-detect-multi-strict : tie.Need-slice-aggregate-detect-multi-strict
+slice-aggregate-detect-multi-strict c = refl
+
+slice-aggregate-detect-multi-strict-2 : tie.Need-slice-aggregate-detect-multi-strict-2
+slice-aggregate-detect-multi-strict-2 c = refl
+
+slice-aggregate-detect-multi-strict-3 : tie.Need-slice-aggregate-detect-multi-strict-3
+slice-aggregate-detect-multi-strict-3 c = refl
+
+slice-aggregate-detect-multi-strict-4 : tie.Need-slice-aggregate-detect-multi-strict-4
+slice-aggregate-detect-multi-strict-4 c = refl
+
+detect-multi-strict-requires : tie.Need-detect-multi-strict-requires
+detect-multi-strict-requires c κs = tt
+
+slice-aggregate-print-searched : tie.Need-slice-aggregate-print-searched
+slice-aggregate-print-searched c = sym (c .before .before .before .before .before .detect-multi-strict .kept .1 .1 .1 .0)
+
+print-searched-requires : tie.Need-print-searched-requires
+print-searched-requires c κs = (left-said _ (c .before .before .before .before .before .before .detect-multi-strict .ensures) .0, omega (arith, c .before .before .before .before .before .before .detect-multi-strict .kept .1 .1 .1 .0), c .before .before .before .before .before .before .before .before .before .before .before .before .before .before .before .pre .1)
+
+same-length : tie.Need-same-length
+same-length c = c .before .before .print-searched .kept .1 .1 .0
+
+returns : tie.Need-returns
+returns c = front-as (ap text (searched-said _ _ (c .before .before .before .before .before .before .before .before .before .before .before .before .before .before .with-min-segment-len .ensures) (c .before .before .before .before .before .before .before .before .before .before .before .before .before .before .before .before .before .before .pre .0) refl refl refl refl (c .before .before .before .before .before .before .before .before .before .detect-multi-strict .ensures))) (c .before .before .print-searched .ensures)
+
+pub print-search-spec : {M : Type 1} → statement M
+print-search-spec =
+    tie.close
+    (tie.spec
+    with-min-segment-len-requires
+    slice-aggregate-detect-multi-strict
+    slice-aggregate-detect-multi-strict-2
+    slice-aggregate-detect-multi-strict-3
+    slice-aggregate-detect-multi-strict-4
+    detect-multi-strict-requires
+    slice-aggregate-print-searched
+    print-searched-requires
+    same-length
+    returns)
