@@ -1,16 +1,16 @@
 -- Laws of the answer: what the search says is what is written. Assumes nothing.
-use Prim.Native.Nat.{ℕ, suc, _+_, _-_, _*_, _/_, _≤_, _<_}
+use Prim.Native.Nat.{ℕ, _+_, _-_, _*_, _/_, _≤_}
 use mathlib.Core.Path.{_≡_, refl, sym, ap, ap₂, subst, _∙_}
-use mathlib.Core.Bool.{Bool, true, false, _||_, cond}
+use mathlib.Core.Bool.{Bool, true, false}
 use mathlib.Core.List.{List, [], _∷_, _++_}
 use mathlib.Core.Option.{Option, none, some}
 use native.Mathlib.Omega.{arith}
 use borrow.Author.Tests.{le-ltb}
 use lib.Dec.{ltb}
 use lib.ListN.{length, take, drop, replicate, length-append, length-replicate, replicate-append-replicate}
-use lib.Seq.{take-at, drop-at, sets, sets-eq, length-take-le}
+use lib.Seq.{take-at, drop-at, sets-eq, length-take-le}
 use lib.Ieee.{Float}
-use Rattle.refusals.specs.Stated.{Stated, stated}
+use Rattle.refusals.specs.Stated.{Stated}
 use Rattle.refusals.specs.Said.{Said, refused, answered, tried}
 use Rattle.refusals.specs.declared.Refusal.{Refusal}
 use Rattle.readings.specs.Shape.{shapeTests, firstLength}
@@ -22,7 +22,6 @@ use Rattle.admission.proofs.AdmissionLaws.{shapely, passed-channels}
 use Rattle.readings.specs.Shape.{shapedAs}
 use Rattle.finding.specs.declared.Searched.{Searched}
 use Rattle.finding.specs.declared.Searched.the-variants as Searched
-use Rattle.finding.specs.Search.{cutsFound}
 use Rattle.finding.specs.Left.{foundSaid, cutsLeft, Left, Detected}
 use Rattle.pelt.specs.declared.Pelt.{Pelt}
 use Rattle.pelt.specs.Detected as Pelt
@@ -30,7 +29,7 @@ use Rattle.pelt.specs.Detected.{withMinSegmentLen}
 use Rattle.fields.specs.Answer.{strictTests, strictCuts, cutsSaid, requestSaid, output, Answered}
 use Rattle.fields.specs.Form.{Request, requestOf}
 use Rattle.fields.specs.Lines.{text}
-use Rattle.fields.specs.Held.{asked, saidBy, HasCuts, Written, Front}
+use Rattle.fields.specs.Held.{asked, saidBy, HasCuts, Front}
 use Rattle.fields.specs.declared.Printed.{Printed}
 
 -- ---- the cuts in the front of the area are those that are found

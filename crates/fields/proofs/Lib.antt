@@ -3,3 +3,4 @@ pub mod LineLaws
 pub mod FormLaws
 pub mod RequestLaws
 pub mod AnswerLaws
+pub mod Examples

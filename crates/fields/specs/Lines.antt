@@ -4,7 +4,6 @@ use mathlib.Core.Bool.{true, false}
 use mathlib.Core.List.{List, [], _∷_, _++_}
 use lib.Dec.{ltb}
 use lib.ListN.{length}
-use Rattle.refusals.specs.Stated.{Stated}
 use Rattle.refusals.specs.Said.{Said, refused, answered}
 
 -- the ASCII codes of a space, a line's end, and the two words

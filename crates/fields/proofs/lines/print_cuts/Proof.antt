@@ -1,25 +1,9 @@
-use mathlib.Core.Path.{_≡_, refl, sym, ap, _∙_}
-use mathlib.Core.List.{List, [], _∷_, _++_}
-use mathlib.Core.Logic.{⊎-elim}
-use Prim.Native.Nat.{ℕ, suc, _≤_, _<_, _*_, _-_, _+_}
+use mathlib.Core.Path.{refl, _∙_}
 use native.Mathlib.Omega.{arith}
-use native.Mathlib.Numerals.{add-one}
-use native.Mathlib.Nat.{le-antisymm}
-use lib.ListN.{length, getD, take, drop, set, length-set}
-use lib.Ieee.{Float, nan}
-use borrow.Author.Needs.{needs}
-use Rattle.fields.specs.Lines.{spaced}
 use lib.Seq.{length-take-le}
-use Rattle.refusals.specs.Stated.{stated}
-use Rattle.fields.proofs.LineLaws.{decimal-short, spaced-short, cuts-text, refused-text, written-none, written-then, written-as, written-long}
+use Rattle.fields.proofs.LineLaws.{spaced-short, cuts-text, written-then, written-as}
 use Rattle.fields.proofs.lines.print_cuts.Statement.{statement}
 use Rattle.fields.proofs.lines.print_cuts.Tie as tie
-use Rattle.fields.proofs.lines.print_cuts.Reads as reads
-use Rattle.fields.proofs.lines.print_cuts.Lts as lts
-use Rattle.fields.proofs.lines.put_byte.Reads as put-byte-reads
-use Rattle.fields.proofs.lines.put_lines.Reads as put-lines-reads
-use Rattle.fields.proofs.lines.put_spaced.Reads as put-spaced-reads
-use Rattle.fields.proofs.lines.put_word.Reads as put-word-reads
 
 slice-aggregate-put-word : tie.Need-slice-aggregate-put-word
 slice-aggregate-put-word c = refl

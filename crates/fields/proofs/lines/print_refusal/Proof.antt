@@ -1,28 +1,13 @@
-use mathlib.Core.Path.{_≡_, refl, sym, ap, _∙_}
-use mathlib.Core.List.{List, [], _∷_, _++_}
-use mathlib.Core.Logic.{⊎-elim}
-use Prim.Native.Nat.{ℕ, suc, _≤_, _<_, _*_, _-_, _+_}
+use mathlib.Core.Path.{refl, ap, _∙_}
+use mathlib.Core.List.{[], _∷_, _++_}
+use Prim.Native.Nat.{ℕ}
 use native.Mathlib.Omega.{arith}
-use native.Mathlib.Numerals.{add-one}
-use native.Mathlib.Nat.{le-antisymm}
-use lib.ListN.{length, getD, take, drop, set, length-set}
-use lib.Ieee.{Float, nan}
-use borrow.Author.Needs.{needs}
 use Rattle.fields.specs.Lines.{spaced}
-use lib.Seq.{length-take-le}
 use Rattle.refusals.specs.Stated.{stated}
 use Rattle.fields.specs.Lines.{newline, refusedWord}
-use Prim.Native.Nat.{_^_}
-use Rattle.fields.proofs.LineLaws.{decimal-short, spaced-short, cuts-text, refused-text, written-none, written-then, written-as, written-long}
+use Rattle.fields.proofs.LineLaws.{spaced-short, refused-text, written-then, written-as}
 use Rattle.fields.proofs.lines.print_refusal.Statement.{statement}
 use Rattle.fields.proofs.lines.print_refusal.Tie as tie
-use Rattle.fields.proofs.lines.print_refusal.Reads as reads
-use Rattle.fields.proofs.lines.print_refusal.Lts as lts
-use Rattle.fields.proofs.lines.put_byte.Reads as put-byte-reads
-use Rattle.fields.proofs.lines.put_spaced.Reads as put-spaced-reads
-use Rattle.fields.proofs.lines.put_values.Reads as put-values-reads
-use Rattle.fields.proofs.lines.put_word.Reads as put-word-reads
-use Rattle.refusals.proofs.Refusal.number.Reads as number-reads
 
 slice-aggregate-put-word : tie.Need-slice-aggregate-put-word
 slice-aggregate-put-word c = refl

@@ -1,22 +1,15 @@
-use mathlib.Core.Path.{_≡_, refl, sym, ap, _∙_}
-use mathlib.Core.List.{List, [], _∷_, _++_}
-use mathlib.Core.Logic.{⊎-elim}
-use Prim.Native.Nat.{ℕ, suc, _≤_, _<_, _*_, _-_, _+_}
+use mathlib.Core.Path.{_≡_, refl, sym}
+use Prim.Native.Nat.{_≤_, _*_, _-_, _+_}
 use native.Mathlib.Omega.{arith}
 use native.Mathlib.Numerals.{add-one}
-use native.Mathlib.Nat.{le-antisymm}
-use lib.ListN.{length, getD, take, drop, set, length-set}
-use lib.Ieee.{Float, nan}
+use lib.ListN.{length, getD, take}
 use borrow.Author.Needs.{needs}
 use lib.Seq.{take-suc}
 use Rattle.fields.specs.Lines.{lines}
 use Rattle.fields.specs.Held.{Written}
-use Rattle.fields.proofs.LineLaws.{spaced-one, lines-one, decimal-fits, decimal-short, line-short, spaced-short, lines-append, spaced-append, written-none, written-then, written-as, written-at, written-long, values-none}
+use Rattle.fields.proofs.LineLaws.{line-short, lines-append, written-none, written-then, written-as, written-long}
 use Rattle.fields.proofs.lines.put_lines.Statement.{statement}
 use Rattle.fields.proofs.lines.put_lines.Tie as tie
-use Rattle.fields.proofs.lines.put_lines.Reads as reads
-use Rattle.fields.proofs.lines.put_lines.Lts as lts
-use Rattle.fields.proofs.lines.put_line.Reads as put-line-reads
 
 abbrev Inv-loop : tie.InvT-loop
 Inv-loop cuts count out₀ at next₀ i₀ out next i = (count ≤ length cuts) × (at + 21 * count ≤ length out₀) × (i ≤ count) × (next ≤ at + 21 * i) × Written (lines (take i cuts)) at out₀ out next

@@ -1,20 +1,8 @@
-use mathlib.Core.Path.{_≡_, refl, sym, ap, _∙_}
-use mathlib.Core.List.{List, [], _∷_, _++_}
-use mathlib.Core.Logic.{⊎-elim}
-use Prim.Native.Nat.{ℕ, suc, _≤_, _<_, _*_, _-_, _+_}
+use mathlib.Core.Path.{_∙_}
 use native.Mathlib.Omega.{arith}
-use native.Mathlib.Numerals.{add-one}
-use native.Mathlib.Nat.{le-antisymm}
-use lib.ListN.{length, getD, take, drop, set, length-set}
-use lib.Ieee.{Float, nan}
-use borrow.Author.Needs.{needs}
-use Rattle.fields.proofs.LineLaws.{spaced-one, lines-one, decimal-fits, decimal-short, line-short, spaced-short, lines-append, spaced-append, written-none, written-then, written-as, written-at, written-long, values-none}
+use Rattle.fields.proofs.LineLaws.{spaced-one, decimal-fits, written-then, written-as}
 use Rattle.fields.proofs.lines.put_spaced.Statement.{statement}
 use Rattle.fields.proofs.lines.put_spaced.Tie as tie
-use Rattle.fields.proofs.lines.put_spaced.Reads as reads
-use Rattle.fields.proofs.lines.put_spaced.Lts as lts
-use Rattle.fields.proofs.lines.put_byte.Reads as put-byte-reads
-use Rattle.fields.proofs.lines.put_decimal.Reads as put-decimal-reads
 
 put-byte-requires : tie.Need-put-byte-requires
 put-byte-requires c κs = omega (arith, c .before .before .pre)

@@ -1,20 +1,13 @@
-use mathlib.Core.Path.{_≡_, refl, sym, ap, _∙_}
-use mathlib.Core.List.{List, [], _∷_, _++_}
-use mathlib.Core.Logic.{⊎-elim}
-use Prim.Native.Nat.{ℕ, suc, _≤_, _<_, _*_, _-_, _+_}
+use mathlib.Core.Path.{sym, _∙_}
+use mathlib.Core.List.{[], _∷_}
+use Prim.Native.Nat.{_≤_}
 use native.Mathlib.Omega.{arith}
-use native.Mathlib.Numerals.{add-one}
-use native.Mathlib.Nat.{le-antisymm}
-use lib.ListN.{length, getD, take, drop, set, length-set}
-use lib.Ieee.{Float, nan}
+use lib.ListN.{length}
 use borrow.Author.Needs.{needs}
 use Rattle.fields.specs.Lines.{spaced}
-use Rattle.fields.proofs.LineLaws.{spaced-one, lines-one, decimal-fits, decimal-short, line-short, spaced-short, lines-append, spaced-append, written-none, written-then, written-as, written-at, written-long, values-none}
+use Rattle.fields.proofs.LineLaws.{spaced-short, spaced-append, written-none, written-then, written-as, values-none}
 use Rattle.fields.proofs.lines.put_values.Statement.{statement}
 use Rattle.fields.proofs.lines.put_values.Tie as tie
-use Rattle.fields.proofs.lines.put_values.Reads as reads
-use Rattle.fields.proofs.lines.put_values.Lts as lts
-use Rattle.fields.proofs.lines.put_spaced.Reads as put-spaced-reads
 
 enum-known-refusal : tie.Need-enum-known-refusal
 enum-known-refusal c = search needs

@@ -1,20 +1,13 @@
-use mathlib.Core.Path.{_≡_, refl, sym, ap, _∙_}
-use mathlib.Core.List.{List, [], _∷_, _++_}
-use mathlib.Core.Logic.{⊎-elim}
-use Prim.Native.Nat.{ℕ, suc, _≤_, _<_, _*_, _-_, _+_}
+use mathlib.Core.Path.{_≡_, refl}
+use Prim.Native.Nat.{_≤_, _-_, _+_}
 use native.Mathlib.Omega.{arith}
 use native.Mathlib.Numerals.{add-one}
-use native.Mathlib.Nat.{le-antisymm}
-use lib.ListN.{length, getD, take, drop, set, length-set}
-use lib.Ieee.{Float, nan}
-use borrow.Author.Needs.{needs}
+use lib.ListN.{length, take}
 use Rattle.fields.specs.Held.{Written}
 use lib.Seq.{take-suc, take-length}
 use Rattle.fields.proofs.LineLaws.{written-none, written-then, written-as, written-at, written-long}
 use Rattle.fields.proofs.lines.put_word.Statement.{statement}
 use Rattle.fields.proofs.lines.put_word.Tie as tie
-use Rattle.fields.proofs.lines.put_word.Reads as reads
-use Rattle.fields.proofs.lines.put_word.Lts as lts
 
 abbrev Inv-loop : tie.InvT-loop
 Inv-loop word out₀ at i₀ out i = (at + length word ≤ length out₀) × (i ≤ length word) × Written (take i word) at out₀ out (at + i)

@@ -1,21 +1,10 @@
-use mathlib.Core.Path.{_≡_, refl, sym, ap, _∙_}
-use mathlib.Core.List.{List, [], _∷_, _++_}
-use mathlib.Core.Logic.{⊎-elim}
-use Prim.Native.Nat.{ℕ, suc, _≤_, _<_, _*_, _-_, _+_}
+use mathlib.Core.Path.{ap}
 use native.Mathlib.Omega.{arith}
-use native.Mathlib.Numerals.{add-one}
-use native.Mathlib.Nat.{le-antisymm}
-use lib.ListN.{length, getD, take, drop, set, length-set}
-use lib.Ieee.{Float, nan}
 use borrow.Author.Needs.{needs}
 use Rattle.fields.specs.Held.{settingsRead}
 use Rattle.fields.proofs.RequestLaws.{read-place, request-long, request-unset, request-wrong, request-all}
 use Rattle.fields.proofs.request.read_request.Statement.{statement}
 use Rattle.fields.proofs.request.read_request.Tie as tie
-use Rattle.fields.proofs.request.read_request.Reads as reads
-use Rattle.fields.proofs.request.read_request.Lts as lts
-use Rattle.fields.proofs.channels.read_channels.Reads as read-channels-reads
-use Rattle.fields.proofs.settings.read_settings.Reads as read-settings-reads
 
 returns : tie.Need-returns
 returns c = request-long _ _ _ (c .if1 .taken)

@@ -1,27 +1,14 @@
-use mathlib.Core.Path.{_≡_, refl, sym, ap, _∙_}
-use mathlib.Core.List.{List, [], _∷_, _++_}
-use mathlib.Core.Logic.{⊎-elim}
-use Prim.Native.Nat.{ℕ, suc, _≤_, _<_, _*_, _-_, _+_}
+use mathlib.Core.Path.{refl, sym, ap, _∙_}
 use native.Mathlib.Omega.{arith}
-use native.Mathlib.Numerals.{add-one}
-use native.Mathlib.Nat.{le-antisymm}
-use lib.ListN.{length, getD, take, drop, set, length-set}
-use lib.Ieee.{Float, nan}
 use borrow.Author.Needs.{needs}
-use Rattle.fields.specs.Lines.{text}
 use mathlib.Core.Path.{subst}
-use Rattle.fields.specs.Held.{HasCuts, saidBy, RequestFits, requestAs}
+use Rattle.fields.specs.Held.{RequestFits, requestAs}
 use lib.Seq.{length-take-le}
 use Rattle.fields.specs.Answer.{requestSaid}
 use Rattle.fields.proofs.AnswerLaws.{prefix-short}
-use Rattle.fields.proofs.AnswerLaws.{left-said, searched-said, front-as, output-of, answered-by}
+use Rattle.fields.proofs.AnswerLaws.{front-as, output-of}
 use Rattle.fields.proofs.search.print_answer.Statement.{statement}
 use Rattle.fields.proofs.search.print_answer.Tie as tie
-use Rattle.fields.proofs.search.print_answer.Reads as reads
-use Rattle.fields.proofs.search.print_answer.Lts as lts
-use Rattle.fields.proofs.lines.print_refusal.Reads as print-refusal-reads
-use Rattle.fields.proofs.request.read_request.Reads as read-request-reads
-use Rattle.fields.proofs.search.print_search.Reads as print-search-reads
 
 slice-aggregate-read-request : tie.Need-slice-aggregate-read-request
 slice-aggregate-read-request c = refl

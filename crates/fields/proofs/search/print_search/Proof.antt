@@ -1,24 +1,9 @@
-use mathlib.Core.Path.{_≡_, refl, sym, ap, _∙_}
-use mathlib.Core.List.{List, [], _∷_, _++_}
-use mathlib.Core.Logic.{⊎-elim}
-use Prim.Native.Nat.{ℕ, suc, _≤_, _<_, _*_, _-_, _+_}
+use mathlib.Core.Path.{refl, sym, ap}
 use native.Mathlib.Omega.{arith}
-use native.Mathlib.Numerals.{add-one}
-use native.Mathlib.Nat.{le-antisymm}
-use lib.ListN.{length, getD, take, drop, set, length-set}
-use lib.Ieee.{Float, nan}
-use borrow.Author.Needs.{needs}
 use Rattle.fields.specs.Lines.{text}
-use mathlib.Core.Path.{subst}
-use Rattle.fields.specs.Held.{HasCuts, saidBy, RequestFits, requestAs}
-use Rattle.fields.proofs.AnswerLaws.{left-said, searched-said, front-as, output-of, answered-by}
+use Rattle.fields.proofs.AnswerLaws.{left-said, searched-said, front-as}
 use Rattle.fields.proofs.search.print_search.Statement.{statement}
 use Rattle.fields.proofs.search.print_search.Tie as tie
-use Rattle.fields.proofs.search.print_search.Reads as reads
-use Rattle.fields.proofs.search.print_search.Lts as lts
-use Rattle.fields.proofs.search.print_searched.Reads as print-searched-reads
-use Rattle.pelt.proofs.Pelt.detect_multi_strict.Reads as detect-multi-strict-reads
-use Rattle.pelt.proofs.Pelt.with_min_segment_len.Reads as with-min-segment-len-reads
 
 with-min-segment-len-requires : tie.Need-with-min-segment-len-requires
 with-min-segment-len-requires c κs = tt

@@ -1,25 +1,14 @@
-use mathlib.Core.Path.{_≡_, refl, sym, ap, _∙_}
-use mathlib.Core.List.{List, [], _∷_, _++_}
-use mathlib.Core.Logic.{⊎-elim}
-use Prim.Native.Nat.{ℕ, suc, _≤_, _<_, _*_, _-_, _+_}
+use mathlib.Core.Path.{sym, ap}
 use native.Mathlib.Omega.{arith}
-use native.Mathlib.Numerals.{add-one}
-use native.Mathlib.Nat.{le-antisymm}
-use lib.ListN.{length, getD, take, drop, set, length-set}
-use lib.Ieee.{Float, nan}
 use borrow.Author.Needs.{needs}
 use Rattle.fields.specs.Lines.{text}
 use mathlib.Core.Path.{subst}
 use Rattle.fields.specs.Held.{HasCuts, saidBy}
 use Rattle.finding.specs.declared.Searched.{Searched}
 use Rattle.finding.specs.declared.Searched.the-variants as Searched
-use Rattle.fields.proofs.AnswerLaws.{left-said, front-as, output-of, answered-by}
+use Rattle.fields.proofs.AnswerLaws.{front-as}
 use Rattle.fields.proofs.search.print_searched.Statement.{statement}
 use Rattle.fields.proofs.search.print_searched.Tie as tie
-use Rattle.fields.proofs.search.print_searched.Reads as reads
-use Rattle.fields.proofs.search.print_searched.Lts as lts
-use Rattle.fields.proofs.lines.print_cuts.Reads as print-cuts-reads
-use Rattle.fields.proofs.lines.print_refusal.Reads as print-refusal-reads
 
 enum-known-answer : tie.Need-enum-known-answer
 enum-known-answer c = search needs

@@ -1,19 +1,8 @@
-use mathlib.Core.Path.{_≡_, refl, sym, ap, _∙_}
-use mathlib.Core.List.{List, [], _∷_, _++_}
-use mathlib.Core.Logic.{⊎-elim}
-use Prim.Native.Nat.{ℕ, suc, _≤_, _<_, _*_, _-_, _+_}
 use native.Mathlib.Omega.{arith}
-use native.Mathlib.Numerals.{add-one}
-use native.Mathlib.Nat.{le-antisymm}
-use lib.ListN.{length, getD, take, drop, set, length-set}
-use lib.Ieee.{Float, nan}
 use borrow.Author.Needs.{needs}
-use Rattle.fields.proofs.FormLaws.{found-short, found-cut, found-other, found-value, field-inside, field-wrong, field-none, field-means, cost-l2, cost-normal, cost-other, cost-long, penalty-bic, penalty-custom, penalty-other, least-value, least-other}
+use Rattle.fields.proofs.FormLaws.{field-inside, field-wrong, field-none, field-means, cost-l2, cost-normal, cost-other, cost-long}
 use Rattle.fields.proofs.settings.cost_field.Statement.{statement}
 use Rattle.fields.proofs.settings.cost_field.Tie as tie
-use Rattle.fields.proofs.settings.cost_field.Reads as reads
-use Rattle.fields.proofs.settings.cost_field.Lts as lts
-use Rattle.fields.proofs.cursor.Cursor.field.Reads as field-reads
 
 field-requires : tie.Need-field-requires
 field-requires c κs = c .before .pre

@@ -1,22 +1,10 @@
-use mathlib.Core.Path.{_≡_, refl, sym, ap, _∙_}
-use mathlib.Core.List.{List, [], _∷_, _++_}
-use mathlib.Core.Logic.{⊎-elim}
-use Prim.Native.Nat.{ℕ, suc, _≤_, _<_, _*_, _-_, _+_}
+use mathlib.Core.Path.{ap}
 use native.Mathlib.Omega.{arith}
-use native.Mathlib.Numerals.{add-one}
-use native.Mathlib.Nat.{le-antisymm}
-use lib.ListN.{length, getD, take, drop, set, length-set}
-use lib.Ieee.{Float, nan}
 use borrow.Author.Needs.{needs}
-use Rattle.fields.specs.Held.{costRead, penaltyRead, leastRead}
+use Rattle.fields.specs.Held.{costRead, penaltyRead}
 use Rattle.fields.proofs.RequestLaws.{read-place, settings-first, settings-second, settings-third, settings-all}
 use Rattle.fields.proofs.settings.read_settings.Statement.{statement}
 use Rattle.fields.proofs.settings.read_settings.Tie as tie
-use Rattle.fields.proofs.settings.read_settings.Reads as reads
-use Rattle.fields.proofs.settings.read_settings.Lts as lts
-use Rattle.fields.proofs.settings.cost_field.Reads as cost-field-reads
-use Rattle.fields.proofs.settings.least_field.Reads as least-field-reads
-use Rattle.fields.proofs.settings.penalty_field.Reads as penalty-field-reads
 
 cost-field-requires : tie.Need-cost-field-requires
 cost-field-requires c κs = omega arith

@@ -1,19 +1,8 @@
-use mathlib.Core.Path.{_≡_, refl, sym, ap, _∙_}
-use mathlib.Core.List.{List, [], _∷_, _++_}
-use mathlib.Core.Logic.{⊎-elim}
-use Prim.Native.Nat.{ℕ, suc, _≤_, _<_, _*_, _-_, _+_}
+use mathlib.Core.Path.{refl}
 use native.Mathlib.Omega.{arith}
-use native.Mathlib.Numerals.{add-one}
-use native.Mathlib.Nat.{le-antisymm}
-use lib.ListN.{length, getD, take, drop, set, length-set}
-use lib.Ieee.{Float, nan}
-use borrow.Author.Needs.{needs}
-use Rattle.fields.proofs.FormLaws.{found-short, found-cut, found-other, found-value, field-inside, field-wrong, field-none, field-means, cost-l2, cost-normal, cost-other, cost-long, penalty-bic, penalty-custom, penalty-other, least-value, least-other}
+use Rattle.fields.proofs.FormLaws.{found-short, found-cut, found-other, found-value}
 use Rattle.fields.proofs.cursor.Cursor.field.Statement.{statement}
 use Rattle.fields.proofs.cursor.Cursor.field.Tie as tie
-use Rattle.fields.proofs.cursor.Cursor.field.Reads as reads
-use Rattle.fields.proofs.cursor.Cursor.field.Lts as lts
-use Rattle.fields.proofs.number.number.Reads as number-reads
 
 sub-if1 : tie.Need-sub-if1
 sub-if1 c = c .before .pre
