@@ -1,10 +1,10 @@
 // A search that is asked for in plain numbers, for programs in other languages.
 //
-// No function asks anything of its caller. `specs/Asked` says which numbers stand for which settings;
+// `search` asks nothing of its caller. `specs/Asked` says which numbers stand for which settings;
 // others are refusal 10, which is tried first and changes no area. All else is the search of crate
 // `finding`, told in numbers by crate `told`.
 ghost use mathlib.Core.Path.{_≡_};
-ghost use Rattle.asked.specs.Asked.{knownNumbers, costOf, penaltyOf, toldCuts, Asked};
+ghost use Rattle.asked.specs.Asked.{knownNumbers, costOf, penaltyOf, Asked};
 use costs::CostFunction;
 use costs::Penalty;
 use finding::Searched;
@@ -13,14 +13,14 @@ use refusals::Refusal;
 use told::Told;
 
 // Whether both numbers stand for a setting.
-pub fn known(cost: u32, penalty_kind: u32) -> bool
+fn known(cost: u32, penalty_kind: u32) -> bool
     ensures { λ r. ⌜ r ≡ knownNumbers cost «penalty_kind» ⌝ }
 {
     if cost < 2 { penalty_kind < 2 } else { false }
 }
 
 // 0 is L2, any other number Normal.
-pub fn cost_of(cost: u32) -> CostFunction
+fn cost_of(cost: u32) -> CostFunction
     ensures { λ r. ⌜ r ≡ costOf cost ⌝ }
 {
     if cost == 0 {
@@ -31,23 +31,13 @@ pub fn cost_of(cost: u32) -> CostFunction
 }
 
 // 0 is BIC, any other number the custom value.
-pub fn penalty_of(penalty_kind: u32, penalty: f64) -> Penalty
+fn penalty_of(penalty_kind: u32, penalty: f64) -> Penalty
     ensures { λ r. ⌜ r ≡ penaltyOf «penalty_kind» penalty ⌝ }
 {
     if penalty_kind == 0 {
         Penalty::Bic
     } else {
         Penalty::Custom(penalty)
-    }
-}
-
-// The number of cuts, or the refusal.
-pub fn told_cuts(answer: Searched) -> Told
-    ensures { λ r. ⌜ r ≡ toldCuts answer ⌝ }
-{
-    match answer {
-        Searched::Cuts(count) => told::counted(count),
-        Searched::Refused(refusal) => told::refused(refusal),
     }
 }
 
@@ -68,7 +58,7 @@ pub fn search(
     ensures { λ r. ⌜ Asked strict cost «penalty_kind» penalty «min_segment_len» (now (readings .entry)) (now (lengths .entry)) (now (cuts .entry)) (now (cuts .exit)) (now (floats .entry)) (now (floats .exit)) (now (indices .entry)) (now (indices .exit)) (now (pool .entry)) (now (pool .exit)) r ⌝ }
 {
     if known(cost, penalty_kind) {
-        return told_cuts(find_cuts(
+        return told::cuts(find_cuts(
             cost_of(cost),
             penalty_of(penalty_kind, penalty),
             min_segment_len,
@@ -81,5 +71,5 @@ pub fn search(
             pool,
         ));
     }
-    told::refused(Refusal::Form)
+    told::cuts(Searched::Refused(Refusal::Form))
 }

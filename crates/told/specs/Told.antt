@@ -1,13 +1,26 @@
 -- What is told of an answer in plain numbers. Definitions only.
 use Prim.Native.Nat.{ℕ}
 use lib.Ieee.{Float}
+use mathlib.Core.Path.{_≡_}
+use mathlib.Core.Bool.{Bool, cond}
+use mathlib.Core.List.{List}
+use lib.Dec.{ltb, eqb}
 use lib.ListN.{getD}
 use Rattle.floats.specs.Numbers.{+0}
 use Rattle.refusals.specs.Stated.{stated}
 use Rattle.refusals.specs.Said.{Said, refused, answered}
+use Rattle.refusals.specs.declared.Refusal.the-variants as Refusal
+use Rattle.charts.specs.declared.Signalled.{Signalled}
+use Rattle.charts.specs.Answers.{signalled}
+use Rattle.charts.specs.Contracts.{Marked}
+use Rattle.cusum.specs.declared.Cusum.{Cusum}
+use Rattle.cusum.specs.declared.Side.{Side}
+use Rattle.cusum.specs.declared.Side.the-variants as Side
+use Rattle.cusum.specs.RunLength.{runLength}
 use Rattle.piece.specs.declared.Summarised.{Summarised}
 use Rattle.piece.specs.declared.Summarised.the-variants as Summarised
 use Rattle.told.specs.declared.Told.{Told}
+use Rattle.told.specs.declared.Counted.{Counted}
 use Rattle.told.specs.declared.ToldPiece.{ToldPiece}
 
 -- the parts of an answer, as a call hands them back one by one
@@ -19,6 +32,16 @@ unfoldable pub toldOf : Said → Told
 toldOf (answered values) = toldAs 0 (getD values 0 0) 0 0
 toldOf (refused s) = toldAs (s .number) 0 (getD (s .values) 0 0) (getD (s .values) 1 0)
 
+-- the same without a place
+abbrev pub countedAs : ℕ → ℕ → Counted
+countedAs number count = record { number = number; count = count }
+
+abbrev pub briefly : Told → Counted
+briefly t = countedAs (t .number) (t .count)
+
+abbrev pub countedOf : Said → Counted
+countedOf s = briefly (toldOf s)
+
 abbrev pub pieceAs : ℕ → ℕ → Float → Float → ToldPiece
 pieceAs number size mean spread = record { number = number; length = size; mean = mean; spread = spread }
 
@@ -26,3 +49,16 @@ pieceAs number size mean spread = record { number = number; length = size; mean 
 unfoldable pub pieceOf : Summarised → ToldPiece
 pieceOf (Summarised.Piece p) = pieceAs 0 (p .length) (p .mean) (p .spread)
 pieceOf (Summarised.Refused r) = pieceAs (stated r .number) 0 +0 +0
+
+-- a side is 0 upper or 1 lower; any other number is refusal 10, and then it is the run length
+unfoldable pub sideOf : ℕ → Side
+sideOf side = cond (eqb side 0) Side.Upper Side.Lower
+
+unfoldable pub runLengthOf : Cusum → Float → ℕ → Said
+runLengthOf c level side = cond (ltb side 2) (runLength c level (sideOf side)) (refused (stated Refusal.Form))
+
+-- what `signal_points` of n readings answers and leaves (`charts/specs/Contracts`), told in numbers
+pub record ToldMarks (accepted : Bool) (n : ℕ) (points entry exit : List ℕ) (t : Counted) : Type 0 where
+  pub answer : Signalled
+  pub told : t ≡ countedOf (signalled answer)
+  pub left : Marked accepted n points entry answer exit

@@ -2,15 +2,25 @@
 // what the answer says.
 //
 // No function asks anything of its caller. `specs/Told` has what is told of each answer, by what it
-// says in document 01's numbers.
+// says in document 01's numbers. A run length, which is numbers alone, is asked here too.
+mod sides;
+
 ghost use mathlib.Core.Path.{_≡_};
 ghost use mathlib.Core.List.{[], _∷_};
 ghost use Rattle.refusals.specs.Stated.{stated};
 ghost use Rattle.refusals.specs.Said.{answered, refused};
-ghost use Rattle.told.specs.Told.{toldOf, pieceOf};
+ghost use Rattle.charts.specs.Answers.{charted, signalled};
+ghost use Rattle.cusum.specs.RunLength.{heardAs};
+ghost use Rattle.finding.specs.Left.{searched};
+ghost use Rattle.told.specs.Told.{toldOf, briefly, countedOf, pieceOf};
+use charts::Charted;
+use charts::Signalled;
+use cusum::Heard;
+use finding::Searched;
 use piece::PieceSummary;
 use piece::Summarised;
 use refusals::Refusal;
+pub use sides::run_length;
 
 // An answer that says at most one whole number: 0 or the refusal's number, that whole number, and the
 // place of a reading that is not finite.
@@ -19,6 +29,12 @@ pub struct Told {
     pub count: usize,
     pub channel: usize,
     pub index: usize,
+}
+
+// The same without a place.
+pub struct Counted {
+    pub number: u32,
+    pub count: usize,
 }
 
 // A piece's summary: 0 or the refusal's number, and the summary's values.
@@ -30,7 +46,7 @@ pub struct ToldPiece {
 }
 
 // An answer with this whole number.
-pub fn counted(count: usize) -> Told
+fn result(count: usize) -> Told
     ensures { λ r. ⌜ r ≡ toldOf (answered (count ∷ [])) ⌝ }
 {
     Told {
@@ -48,7 +64,7 @@ fn number_of(refusal: Refusal) -> u32
 }
 
 // A refusal, with its place where it carries one.
-pub fn refused(refusal: Refusal) -> Told
+fn refused(refusal: Refusal) -> Told
     ensures { λ r. ⌜ r ≡ toldOf (refused (stated refusal)) ⌝ }
 {
     let number = number_of(refusal);
@@ -65,6 +81,56 @@ pub fn refused(refusal: Refusal) -> Told
             channel: 0,
             index: 0,
         },
+    }
+}
+
+fn brief(told: Told) -> Counted
+    ensures { λ r. ⌜ r ≡ briefly told ⌝ }
+{
+    Counted {
+        number: told.number,
+        count: told.count,
+    }
+}
+
+// The number of cuts, or the refusal and its place.
+pub fn cuts(answer: Searched) -> Told
+    ensures { λ r. ⌜ r ≡ toldOf (searched answer) ⌝ }
+{
+    match answer {
+        Searched::Cuts(count) => result(count),
+        Searched::Refused(refusal) => refused(refusal),
+    }
+}
+
+// The number of records, or the refusal.
+pub fn records(answer: Charted) -> Counted
+    ensures { λ r. ⌜ r ≡ countedOf (charted answer) ⌝ }
+{
+    match answer {
+        Charted::Records(count) => brief(result(count)),
+        Charted::Refused(refusal) => brief(refused(refusal)),
+    }
+}
+
+// The number of indices, or the refusal.
+pub fn points(answer: Signalled) -> Counted
+    ensures { λ r. ⌜ r ≡ countedOf (signalled answer) ⌝ }
+{
+    match answer {
+        Signalled::Points(count) => brief(result(count)),
+        Signalled::Refused(refusal) => brief(refused(refusal)),
+    }
+}
+
+// The reading at which a level was heard, 0 where it was not, or the refusal.
+pub(crate) fn heard(answer: Heard) -> Counted
+    ensures { λ r. ⌜ r ≡ countedOf (heardAs answer) ⌝ }
+{
+    match answer {
+        Heard::At(reading) => brief(result(reading)),
+        Heard::NotHeard => brief(result(0)),
+        Heard::Refused(refusal) => brief(refused(refusal)),
     }
 }
 
