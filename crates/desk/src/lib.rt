@@ -1,23 +1,24 @@
 // What programs in other languages call: the static library that `rt staticlib desk` writes defines
-// each function here under its plain name, by C's conventions.
+// each function here under its plain name, by C's conventions. `include/overbrindle.h` declares them.
 //
-// None asks anything of its caller. Each returns, for every argument, the value of the definition
-// that its contract names, to the bit; NaN counts as one value.
+// None asks anything of its caller. A contract names the definitions that what is returned, every
+// single result and every lent slice afterwards are equal to, to the bit; NaN counts as one value.
+// The functions only pass on: what they promise is proved in the crates that they call.
 ghost use mathlib.Core.Path.{_≡_};
 ghost use mathlib.Core.Bool.{true, false};
-ghost use Rattle.asked.specs.Asked.{Asked};
-ghost use Rattle.columns.specs.CusumColumns.{CusumArrays};
-ghost use Rattle.columns.specs.EwmaColumns.{EwmaArrays};
-ghost use Rattle.cusum.specs.Chart as Cusums;
-ghost use Rattle.ewma.specs.Chart as Ewmas;
-ghost use Rattle.noise.specs.Noise.{noise, Lent};
 ghost use lib.ListN.{length};
-ghost use Rattle.piece.specs.Piece.{summarisedAs};
-ghost use Rattle.told.specs.Told.{toldAs, countedAs, countedOf, pieceAs, pieceOf, runLengthOf};
-ghost use Rattle.desk.specs.Marks.{CusumMarks, EwmaMarks};
 ghost use Rattle.elementary.specs.Root.{sqrt};
 ghost use Rattle.elementary.specs.Power.{powi};
 ghost use Rattle.elementary.specs.Logarithm.{ln};
+ghost use Rattle.noise.specs.Noise.{noise, Lent};
+ghost use Rattle.piece.specs.Piece.{summarisedAs};
+ghost use Rattle.cusum.specs.Chart as Cusums;
+ghost use Rattle.ewma.specs.Chart as Ewmas;
+ghost use Rattle.told.specs.Told.{toldAs, countedAs, countedOf, pieceAs, pieceOf, runLengthOf};
+ghost use Rattle.asked.specs.Asked.{Asked};
+ghost use Rattle.columns.specs.CusumColumns.{CusumArrays};
+ghost use Rattle.columns.specs.EwmaColumns.{EwmaArrays};
+ghost use Rattle.desk.specs.Marks.{CusumMarks, EwmaMarks};
 use cusum::Cusum;
 use ewma::Ewma;
 
