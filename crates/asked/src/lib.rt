@@ -4,7 +4,7 @@
 // others are refusal 10, which is tried first and changes no area. All else is the search of crate
 // `finding`, told in numbers by crate `told`.
 ghost use mathlib.Core.Path.{_≡_};
-ghost use Rattle.asked.specs.Asked.{knownNumbers, costOf, penaltyOf, Asked};
+ghost use Rattle.asked.specs.Asked.{knownNumbers, costOf, penaltyOf, toldCuts, Asked};
 use costs::CostFunction;
 use costs::Penalty;
 use finding::Searched;
@@ -41,6 +41,21 @@ fn penalty_of(penalty_kind: u32, penalty: f64) -> Penalty
     }
 }
 
+// The number of cuts, or the refusal and its place.
+fn told_cuts(answer: Searched) -> Told
+    ensures { λ r. ⌜ r ≡ toldCuts answer ⌝ }
+{
+    match answer {
+        Searched::Cuts(count) => Told {
+            number: 0,
+            count,
+            channel: 0,
+            index: 0,
+        },
+        Searched::Refused(refusal) => told::refused(refusal),
+    }
+}
+
 // The search of `find_cuts` with the settings that the numbers stand for.
 pub fn search(
     strict: bool,
@@ -58,7 +73,7 @@ pub fn search(
     ensures { λ r. ⌜ Asked strict cost «penalty_kind» penalty «min_segment_len» (now (readings .entry)) (now (lengths .entry)) (now (cuts .entry)) (now (cuts .exit)) (now (floats .entry)) (now (floats .exit)) (now (indices .entry)) (now (indices .exit)) (now (pool .entry)) (now (pool .exit)) r ⌝ }
 {
     if known(cost, penalty_kind) {
-        return told::cuts(find_cuts(
+        return told_cuts(find_cuts(
             cost_of(cost),
             penalty_of(penalty_kind, penalty),
             min_segment_len,
@@ -71,5 +86,5 @@ pub fn search(
             pool,
         ));
     }
-    told::cuts(Searched::Refused(Refusal::Form))
+    told::refused(Refusal::Form)
 }

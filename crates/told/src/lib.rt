@@ -11,12 +11,10 @@ ghost use Rattle.refusals.specs.Stated.{stated};
 ghost use Rattle.refusals.specs.Said.{answered, refused};
 ghost use Rattle.charts.specs.Answers.{charted, signalled};
 ghost use Rattle.cusum.specs.RunLength.{heardAs};
-ghost use Rattle.finding.specs.Left.{searched};
 ghost use Rattle.told.specs.Told.{toldOf, briefly, countedOf, pieceOf};
 use charts::Charted;
 use charts::Signalled;
 use cusum::Heard;
-use finding::Searched;
 use piece::PieceSummary;
 use piece::Summarised;
 use refusals::Refusal;
@@ -64,7 +62,7 @@ fn number_of(refusal: Refusal) -> u32
 }
 
 // A refusal, with its place where it carries one.
-fn refused(refusal: Refusal) -> Told
+pub fn refused(refusal: Refusal) -> Told
     ensures { λ r. ⌜ r ≡ toldOf (refused (stated refusal)) ⌝ }
 {
     let number = number_of(refusal);
@@ -90,16 +88,6 @@ fn brief(told: Told) -> Counted
     Counted {
         number: told.number,
         count: told.count,
-    }
-}
-
-// The number of cuts, or the refusal and its place.
-pub fn cuts(answer: Searched) -> Told
-    ensures { λ r. ⌜ r ≡ toldOf (searched answer) ⌝ }
-{
-    match answer {
-        Searched::Cuts(count) => result(count),
-        Searched::Refused(refusal) => refused(refusal),
     }
 }
 

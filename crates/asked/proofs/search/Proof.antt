@@ -18,8 +18,8 @@ penalty-of-requires c κs = tt
 find-cuts-requires : tie.Need-find-cuts-requires
 find-cuts-requires c κs = tt
 
-cuts-requires : tie.Need-cuts-requires
-cuts-requires c κs = tt
+told-cuts-requires : tie.Need-told-cuts-requires
+told-cuts-requires c κs = tt
 
 same-length : tie.Need-same-length
 same-length c = c .before .before .before .before .before .before .before .before .before .find-cuts .kept .1 .1 .1 .1 .1 .1 .0
@@ -37,14 +37,14 @@ returns : tie.Need-returns
 unfolding askedTests
 returns c =
     goes-on _ Refusal.Form (sym (c .before .before .before .before .before .before .before .before .before .before .before .before .before .before .before .before .before .known .ensures) ∙ c .before .before .before .before .before .before .before .before .before .before .before .before .before .before .before .before .if1 .taken)
-    (rw (c .before .before .before .before .before .before .before .before .before .before .before .before .before .before .before .cost-of .ensures, c .before .before .before .before .before .before .before .before .before .before .before .before .before .before .penalty-of .ensures) at (c .before .before .before .before .before .before .before .before .before .find-cuts .ensures)) (c .cuts2 .ensures)
+    (rw (c .before .before .before .before .before .before .before .before .before .before .before .before .before .before .before .cost-of .ensures, c .before .before .before .before .before .before .before .before .before .before .before .before .before .before .penalty-of .ensures) at (c .before .before .before .before .before .before .before .before .before .find-cuts .ensures)) (c .told-cuts .ensures)
 
-cuts-requires-2 : tie.Need-cuts-requires-2
-cuts-requires-2 c κs = tt
+refused-requires : tie.Need-refused-requires
+refused-requires c κs = tt
 
 returns-2 : tie.Need-returns-2
 unfolding askedTests
-returns-2 c = stops _ Refusal.Form (sym (c .before .before .known .ensures) ∙ c .before .if1 .left) (c .cuts3 .ensures)
+returns-2 c = stops _ Refusal.Form (sym (c .before .before .known .ensures) ∙ c .before .if1 .left) (c .refused .ensures)
 
 pub search-spec : {M : Type 1} → statement M
-search-spec = tie.close (tie.spec known-requires cost-of-requires penalty-of-requires find-cuts-requires cuts-requires same-length same-length-2 same-length-3 same-length-4 returns cuts-requires-2 returns-2)
+search-spec = tie.close (tie.spec known-requires cost-of-requires penalty-of-requires find-cuts-requires told-cuts-requires same-length same-length-2 same-length-3 same-length-4 returns refused-requires returns-2)
