@@ -21,13 +21,15 @@ use Rattle.finding.specs.Left.{searched, Left}
 use Rattle.told.specs.declared.Told.{Told}
 use Rattle.told.specs.Told.{toldOf}
 
--- 0 L2 or 1 Normal, 0 BIC or 1 custom: any other number is refusal 10
+-- the numbers that stand for a cost and a penalty; any other is refusal 10
 unfoldable pub knownNumbers : ℕ → ℕ → Bool
 knownNumbers cost kind = ltb cost 2 && ltb kind 2
 
+-- 0 L2, 1 Normal
 unfoldable pub costOf : ℕ → CostFunction
 costOf cost = cond (eqb cost 0) CostFunction.L2 CostFunction.Normal
 
+-- 0 BIC, which does not look at the value, 1 custom
 unfoldable pub penaltyOf : ℕ → Float → Penalty
 penaltyOf kind value = cond (eqb kind 0) Penalty.Bic (Penalty.Custom value)
 

@@ -12,8 +12,15 @@ use Rattle.cusum.specs.declared.Cusum.{Cusum}
 use Rattle.cusum.specs.declared.State.{State}
 use Rattle.cusum.specs.Chart.{shownOf, startState, nextState, followingState}
 use Rattle.columns.specs.Columns.{writtenRecords}
-use Rattle.columns.specs.CusumColumns.{upperOf, lowerOf, signalOf, indexOf, Room, Filled, roomOf}
+use Rattle.columns.specs.CusumColumns.{upperOf, lowerOf, signalOf, indexOf, Filled, roomOf}
 use Rattle.columns.proofs.Lengths.{shortest-least}
+
+-- every array has room for n records
+pub record Room (n : ℕ) (upper lower : List Float) (signal index : List ℕ) : Type 0 where
+  pub upper-room : n ≤ length upper
+  pub lower-room : n ≤ length lower
+  pub signal-room : n ≤ length signal
+  pub index-room : n ≤ length index
 
 -- so many records as are written have room
 pub written-room : (ok : Bool) (n : ℕ) (upper lower : List Float) (signal index : List ℕ) → let k = writtenRecords ok n (roomOf upper lower signal index) in (k ≤ n) × Room k upper lower signal index

@@ -12,8 +12,16 @@ use Rattle.ewma.specs.declared.Ewma.{Ewma}
 use Rattle.ewma.specs.declared.State.{State}
 use Rattle.ewma.specs.Chart.{shownOf, startState, nextState, followingState}
 use Rattle.columns.specs.Columns.{shorter, writtenRecords}
-use Rattle.columns.specs.EwmaColumns.{ewmaOf, uclOf, lclOf, signalOf, indexOf, Room, Filled, roomOf}
+use Rattle.columns.specs.EwmaColumns.{ewmaOf, uclOf, lclOf, signalOf, indexOf, Filled, roomOf}
 use Rattle.columns.proofs.Lengths.{shorter-least, shortest-least}
+
+-- every array has room for n records
+pub record Room (n : ℕ) (ewma ucl lcl : List Float) (signal index : List ℕ) : Type 0 where
+  pub ewma-room : n ≤ length ewma
+  pub ucl-room : n ≤ length ucl
+  pub lcl-room : n ≤ length lcl
+  pub signal-room : n ≤ length signal
+  pub index-room : n ≤ length index
 
 -- so many records as are written have room
 pub written-room : (ok : Bool) (n : ℕ) (ewma ucl lcl : List Float) (signal index : List ℕ) → let k = writtenRecords ok n (roomOf ewma ucl lcl signal index) in (k ≤ n) × Room k ewma ucl lcl signal index

@@ -1,4 +1,4 @@
--- What the arrays of a chart's records are told by. Definitions only.
+-- What is told of the records of a chart as arrays, for the room of the shortest array. Definitions only.
 use Prim.Native.Nat.{ℕ}
 use mathlib.Core.Bool.{Bool, cond}
 use mathlib.Core.List.{[], _∷_}

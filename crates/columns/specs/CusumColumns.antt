@@ -1,5 +1,5 @@
 -- The records of a CUSUM chart (001) as arrays: what is told, and what each array holds afterwards. Definitions only.
-use Prim.Native.Nat.{ℕ, _≤_}
+use Prim.Native.Nat.{ℕ}
 use mathlib.Core.Path.{_≡_}
 use mathlib.Core.List.{List}
 use lib.ListN.{length}
@@ -23,13 +23,6 @@ signalOf r = flag (r .signal)
 
 abbrev pub indexOf : CusumResult → ℕ
 indexOf r = r .index .0
-
--- every array has room for n records
-pub record Room (n : ℕ) (upper lower : List Float) (signal index : List ℕ) : Type 0 where
-  pub upper-room : n ≤ length upper
-  pub lower-room : n ≤ length lower
-  pub signal-room : n ≤ length signal
-  pub index-room : n ≤ length index
 
 -- each array has, for each of the first n readings, that field of the record that `analyze` writes
 pub record Filled (c : Cusum) (xs : List Float) (n : ℕ) (upper upper′ lower lower′ : List Float) (signal signal′ index index′ : List ℕ) : Type 0 where

@@ -1,5 +1,5 @@
 -- The records of an EWMA chart (002) as arrays: what is told, and what each array holds afterwards. Definitions only.
-use Prim.Native.Nat.{ℕ, _≤_}
+use Prim.Native.Nat.{ℕ}
 use mathlib.Core.Path.{_≡_}
 use mathlib.Core.List.{List}
 use lib.ListN.{length}
@@ -26,14 +26,6 @@ signalOf r = flag (r .signal)
 
 abbrev pub indexOf : EwmaResult → ℕ
 indexOf r = r .index .0
-
--- every array has room for n records
-pub record Room (n : ℕ) (ewma ucl lcl : List Float) (signal index : List ℕ) : Type 0 where
-  pub ewma-room : n ≤ length ewma
-  pub ucl-room : n ≤ length ucl
-  pub lcl-room : n ≤ length lcl
-  pub signal-room : n ≤ length signal
-  pub index-room : n ≤ length index
 
 -- each array has, for each of the first n readings, that field of the record that `analyze` writes
 pub record Filled (c : Ewma) (xs : List Float) (n : ℕ) (ewma ewma′ ucl ucl′ lcl lcl′ : List Float) (signal signal′ index index′ : List ℕ) : Type 0 where

@@ -1,14 +1,14 @@
 -- What is told of an answer in plain numbers. Definitions only.
 use Prim.Native.Nat.{ℕ}
-use lib.Ieee.{Float}
 use mathlib.Core.Path.{_≡_}
-use mathlib.Core.Bool.{Bool, cond}
-use mathlib.Core.List.{List}
+use mathlib.Core.Bool.{Bool, not, cond}
+use mathlib.Core.List.{List, [], _∷_}
 use lib.Dec.{ltb, eqb}
 use lib.ListN.{getD}
+use lib.Ieee.{Float}
 use Rattle.floats.specs.Numbers.{+0}
 use Rattle.refusals.specs.Stated.{stated}
-use Rattle.refusals.specs.Said.{Said, refused, answered}
+use Rattle.refusals.specs.Said.{Said, refused, answered, tried}
 use Rattle.refusals.specs.declared.Refusal.the-variants as Refusal
 use Rattle.charts.specs.declared.Signalled.{Signalled}
 use Rattle.charts.specs.Answers.{signalled}
@@ -32,7 +32,7 @@ unfoldable pub toldOf : Said → Told
 toldOf (answered values) = toldAs 0 (getD values 0 0) 0 0
 toldOf (refused s) = toldAs (s .number) 0 (getD (s .values) 0 0) (getD (s .values) 1 0)
 
--- the same without a place
+-- the parts of an answer without a place, such an answer of one with it, and what is told so
 abbrev pub countedAs : ℕ → ℕ → Counted
 countedAs number count = record { number = number; count = count }
 
@@ -42,6 +42,7 @@ briefly t = countedAs (t .number) (t .count)
 abbrev pub countedOf : Said → Counted
 countedOf s = briefly (toldOf s)
 
+-- the parts of a piece's summary
 abbrev pub pieceAs : ℕ → ℕ → Float → Float → ToldPiece
 pieceAs number size mean spread = record { number = number; length = size; mean = mean; spread = spread }
 
@@ -50,12 +51,13 @@ unfoldable pub pieceOf : Summarised → ToldPiece
 pieceOf (Summarised.Piece p) = pieceAs 0 (p .length) (p .mean) (p .spread)
 pieceOf (Summarised.Refused r) = pieceAs (stated r .number) 0 +0 +0
 
--- a side is 0 upper or 1 lower; any other number is refusal 10, and then it is the run length
+-- 0 is the upper side, 1 the lower
 unfoldable pub sideOf : ℕ → Side
 sideOf side = cond (eqb side 0) Side.Upper Side.Lower
 
+-- 10 for any other number, and then what the run length says
 unfoldable pub runLengthOf : Cusum → Float → ℕ → Said
-runLengthOf c level side = cond (ltb side 2) (runLength c level (sideOf side)) (refused (stated Refusal.Form))
+runLengthOf c level side = tried ((not (ltb side 2), Refusal.Form) ∷ []) (runLength c level (sideOf side))
 
 -- what `signal_points` of n readings answers and leaves (`charts/specs/Contracts`), told in numbers
 pub record ToldMarks (accepted : Bool) (n : ℕ) (points entry exit : List ℕ) (t : Counted) : Type 0 where

@@ -15,7 +15,6 @@ ghost use Rattle.told.specs.Told.{toldOf, briefly, countedOf, pieceOf};
 use charts::Charted;
 use charts::Signalled;
 use cusum::Heard;
-use piece::PieceSummary;
 use piece::Summarised;
 use refusals::Refusal;
 pub use sides::run_length;

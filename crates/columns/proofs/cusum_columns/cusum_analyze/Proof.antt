@@ -11,8 +11,8 @@ use Rattle.charts.proofs.Answers.{admitted-says}
 use Rattle.charts.proofs.Columns.{Going, not-gone}
 use Rattle.cusum.specs.Chart.{accepted, shownOf, startState, nextState}
 use Rattle.told.specs.Told.{countedOf}
-use Rattle.columns.specs.CusumColumns.{Room, Filled, roomOf}
-use Rattle.columns.proofs.CusumLaws.{written-room, upper-length, lower-length, signal-length, index-length, all-done, one-more}
+use Rattle.columns.specs.CusumColumns.{Filled, roomOf}
+use Rattle.columns.proofs.CusumLaws.{Room, written-room, upper-length, lower-length, signal-length, index-length, all-done, one-more}
 use Rattle.columns.proofs.Lengths.{written-few}
 use Rattle.columns.proofs.cusum_columns.cusum_analyze.Statement.{statement}
 use Rattle.columns.proofs.cusum_columns.cusum_analyze.Tie as tie

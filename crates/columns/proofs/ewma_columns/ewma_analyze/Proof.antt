@@ -11,8 +11,8 @@ use Rattle.charts.proofs.Answers.{admitted-says}
 use Rattle.charts.proofs.Columns.{Going, not-gone}
 use Rattle.ewma.specs.Chart.{accepted, shownOf, startState, nextState}
 use Rattle.told.specs.Told.{countedOf}
-use Rattle.columns.specs.EwmaColumns.{Room, Filled, roomOf}
-use Rattle.columns.proofs.EwmaLaws.{written-room, ewma-length, ucl-length, lcl-length, signal-length, index-length, all-done, one-more}
+use Rattle.columns.specs.EwmaColumns.{Filled, roomOf}
+use Rattle.columns.proofs.EwmaLaws.{Room, written-room, ewma-length, ucl-length, lcl-length, signal-length, index-length, all-done, one-more}
 use Rattle.columns.proofs.Lengths.{written-few}
 use Rattle.columns.proofs.ewma_columns.ewma_analyze.Statement.{statement}
 use Rattle.columns.proofs.ewma_columns.ewma_analyze.Tie as tie
