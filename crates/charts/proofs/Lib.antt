@@ -3,6 +3,7 @@ pub mod Runs
 pub mod Answers
 pub mod Outcomes
 pub mod Loops
+pub mod Columns
 pub mod ChartedKind
 pub mod Walk
 pub mod ByValue

@@ -7,7 +7,7 @@ use native.Mathlib.Omega.{arith}
 use native.Mathlib.Numerals.{add-one}
 use borrow.Author.Tests.{lt-ltb}
 use lib.Dec.{ltb}
-use lib.ListN.{length, getD, set, drop, length-append, length-drop}
+use lib.ListN.{length, getD, set, length-append}
 use lib.Ieee.{Float, nan}
 use Rattle.refusals.specs.Stated.{stated}
 use Rattle.refusals.specs.Said.{Said, refused, answered, tried}
@@ -20,10 +20,7 @@ use Rattle.charts.specs.Runs.{stateAt, records, points, lent}
 use Rattle.charts.specs.Contracts.{Analyzed, Noted, Stands, Marked, marks}
 use Rattle.charts.proofs.Answers.{admitted-says, within-both}
 use Rattle.charts.proofs.Outcomes.{analyzed-once}
-use Rattle.charts.proofs.Runs.{lent-more, points-few, written, written-lent}
-
-length-lent : {D : Type 0} (results entry : List D) → length results ≤ length entry → length (lent results entry) ≡ length entry
-length-lent results entry h = length-append results (drop (length results) entry) ∙ ap (λ (k : ℕ). length results + k) (length-drop (length results) entry) ∙ omega arith
+use Rattle.charts.proofs.Runs.{lent-more, length-lent, points-few, written, written-lent}
 
 module _ {C S D : Type 0} (shown : S → D) (start : C → S) (step : C → S → ℕ → Float → S) (signals : D → Bool) (c : C) (xs : List Float) (n : ℕ) (entry : List ℕ) where
   -- after i readings the state is s, and the indices among them that signal stand at the front of l

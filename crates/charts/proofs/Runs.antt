@@ -7,10 +7,13 @@ use native.Mathlib.Omega.{arith}
 use native.Mathlib.Numerals.{add-one}
 use native.Mathlib.Nat.{not-suc-le-zero, le-of-suc-le-suc, eq-or-lt-of-le}
 use mathlib.Core.Logic.{inl, inr}
-use lib.ListN.{length, getD, set, drop, length-set, length-append}
+use lib.ListN.{length, getD, set, drop, length-set, length-append, length-drop}
 use lib.Seq.{drop-cons, set-at, getD-append-seam}
 use lib.Ieee.{Float}
 use Rattle.charts.specs.Runs.{recordAt, records, points, lent}
+
+pub length-lent : {D : Type 0} (results entry : List D) → length results ≤ length entry → length (lent results entry) ≡ length entry
+length-lent results entry h = length-append results (drop (length results) entry) ∙ ap (λ (k : ℕ). length results + k) (length-drop (length results) entry) ∙ omega arith
 
 -- ---- one result more at the front of a lent list
 pub lent-more : {D : Type 0} (results entry : List D) (v fallback : D) (k : ℕ) → length results ≡ k → k < length entry → set (lent results entry) k v ≡ lent (results ++ (v ∷ [])) entry

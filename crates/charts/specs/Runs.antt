@@ -1,7 +1,8 @@
 -- A run of a chart over a series: a state goes from reading to reading, and the state after a reading shows that reading's record. Definitions only.
 use Prim.Native.Nat.{ℕ, zero, suc}
 use mathlib.Core.Bool.{Bool, cond}
-use mathlib.Core.List.{List, [], _∷_, _++_}
+use mathlib.Core.List.{List, [], _∷_, _++_, map}
+use lib.Dec.{ltb}
 use lib.ListN.{length, getD, drop}
 use lib.Ieee.{Float, nan}
 
@@ -24,6 +25,14 @@ module _ {C S D : Type 0} (shown : S → D) (start : C → S) (step : C → S �
   points signals zero = []
   points signals (suc n) = cond (signals (recordAt n)) (points signals n ++ (n ∷ [])) (points signals n)
 
+-- the state after the reading at i, and the same state where there is no such reading
+abbrev pub following : {C S : Type 0} → (C → S → ℕ → Float → S) → C → List Float → ℕ → S → S
+following step c xs i s = cond (ltb i (length xs)) (step c s i (getD xs i nan)) s
+
 -- a lent list with results at its front, and behind them what it held
 abbrev pub lent : {D : Type 0} → List D → List D → List D
 lent results entry = results ++ drop (length results) entry
+
+-- a lent list with one field of each of the records at its front, and behind them what it held
+abbrev pub column : {D A : Type 0} → (D → A) → List D → List A → List A
+column field records entry = lent (map field records) entry

@@ -56,6 +56,9 @@ startState c = record { shown = fresh }
 abbrev pub nextState : Cusum → State → ℕ → Float → State
 nextState c s i x = record { shown = stepOf c (s .shown) (record { 0 = i }) x }
 
+abbrev pub followingState : Cusum → List Float → ℕ → State → State
+followingState = Runs.following nextState
+
 -- the record of the reading at i, those of the first n, and the indices among them that signal
 abbrev pub recordAt : Cusum → List Float → ℕ → CusumResult
 recordAt = Runs.recordAt shownOf startState nextState

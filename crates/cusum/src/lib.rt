@@ -19,9 +19,10 @@ use listen::listen;
 use points::mark;
 use refusals::Refusal;
 use step::accepted;
-use step::judge;
+pub use step::following;
+pub use step::judge;
 use step::next;
-use step::start;
+pub use step::start;
 
 pub struct Cusum {
     pub target: f64,

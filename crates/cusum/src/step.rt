@@ -4,7 +4,7 @@ ghost use Prim.Native.Nat.{_<_};
 ghost use lib.ListN.{length, getD};
 ghost use lib.Ieee.{nan};
 ghost use Rattle.charts.specs.Answers.{admittedAs};
-ghost use Rattle.cusum.specs.Chart.{accepted, stepOf, startState, nextState};
+ghost use Rattle.cusum.specs.Chart.{accepted, stepOf, startState, nextState, followingState};
 use crate::Cusum;
 use crate::CusumResult;
 use crate::State;
@@ -23,7 +23,7 @@ pub(crate) fn accepted(chart: Cusum) -> bool
 }
 
 // What a call answers, for so many readings and room for so many results.
-pub(crate) fn judge(chart: Cusum, readings: usize, room: usize) -> Charted
+pub fn judge(chart: Cusum, readings: usize, room: usize) -> Charted
     ensures { λ r. ⌜ r ≡ admittedAs (accepted chart) readings room ⌝ }
 {
     charts::admitted(accepted(chart), readings, room)
@@ -55,7 +55,7 @@ pub(crate) fn step(chart: Cusum, before: CusumResult, index: Observation, x: f64
 }
 
 // Before the first reading both sums are zero.
-pub(crate) fn start(chart: Cusum) -> State
+pub fn start(chart: Cusum) -> State
     ensures { λ r. ⌜ r ≡ startState chart ⌝ }
 {
     let shown = CusumResult {
@@ -75,4 +75,14 @@ pub(crate) fn next(chart: Cusum, data: &[f64], i: usize, state: State) -> State
     let before = state.shown;
     let after = step(chart, before, Observation(i), data[i]);
     State { shown: after }
+}
+
+// The state after the reading at i, and the same state where there is no such reading.
+pub fn following(chart: Cusum, data: &[f64], i: usize, state: State) -> State
+    ensures { λ r. ⌜ r ≡ followingState chart (now («data» .entry)) i state ⌝ }
+{
+    if i < data.len() {
+        return next(chart, data, i, state);
+    }
+    state
 }

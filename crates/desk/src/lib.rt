@@ -1,12 +1,26 @@
 // What programs in other languages call: the static library that `rt staticlib desk` writes defines
-// each function here under its plain name, by C's conventions.
+// each function here under its plain name, by C's conventions. `include/overbrindle.h` declares them.
 //
-// None asks anything of its caller. Each returns, for every argument, the value of the definition
-// that its contract names, to the bit; NaN counts as one value.
+// None asks anything of its caller. A contract names the definitions that what is returned, every
+// single result and every lent slice afterwards are equal to, to the bit; NaN counts as one value.
+// The functions only pass on: what they promise is proved in the crates that they call.
 ghost use mathlib.Core.Path.{_≡_};
+ghost use mathlib.Core.Bool.{true, false};
+ghost use lib.ListN.{length};
 ghost use Rattle.elementary.specs.Root.{sqrt};
 ghost use Rattle.elementary.specs.Power.{powi};
 ghost use Rattle.elementary.specs.Logarithm.{ln};
+ghost use Rattle.noise.specs.Noise.{noise, Lent};
+ghost use Rattle.piece.specs.Piece.{summarisedAs};
+ghost use Rattle.cusum.specs.Chart as Cusums;
+ghost use Rattle.ewma.specs.Chart as Ewmas;
+ghost use Rattle.told.specs.Told.{toldAs, countedAs, countedOf, pieceAs, pieceOf, runLengthOf};
+ghost use Rattle.asked.specs.Asked.{Asked};
+ghost use Rattle.columns.specs.CusumColumns.{CusumArrays};
+ghost use Rattle.columns.specs.EwmaColumns.{EwmaArrays};
+ghost use Rattle.desk.specs.Marks.{CusumMarks, EwmaMarks};
+use cusum::Cusum;
+use ewma::Ewma;
 
 // The square root of x, rounded to the nearest.
 #[no_mangle]
@@ -30,4 +44,237 @@ pub extern "C" fn overbrindle_ln(x: f64) -> f64
     ensures { λ r. ⌜ r ≡ ln x ⌝ }
 {
     elementary::ln(x)
+}
+
+// The cuts of a search; cost 0 L2, 1 Normal; penalty_kind 0 BIC, 1 custom.
+#[no_mangle]
+pub extern "C" fn overbrindle_detect_multi(
+    cost: u32,
+    penalty_kind: u32,
+    penalty: f64,
+    min_segment_len: usize,
+    readings: &[f64],
+    lengths: &[usize],
+    cuts: &mut [usize],
+    floats: &mut [f64],
+    indices: &mut [usize],
+    pool: &mut [f64],
+    count: &mut usize,
+    channel: &mut usize,
+    index: &mut usize,
+) -> u32
+    ensures { λ r. ⌜ Asked false cost «penalty_kind» penalty «min_segment_len» (now (readings .entry)) (now (lengths .entry)) (now (cuts .entry)) (now (cuts .exit)) (now (floats .entry)) (now (floats .exit)) (now (indices .entry)) (now (indices .exit)) (now (pool .entry)) (now (pool .exit)) (toldAs r (now (count .exit)) (now (channel .exit)) (now (index .exit))) ⌝ }
+{
+    let told = asked::search(
+        false,
+        cost,
+        penalty_kind,
+        penalty,
+        min_segment_len,
+        readings,
+        lengths,
+        cuts,
+        floats,
+        indices,
+        pool,
+    );
+    *count = told.count;
+    *channel = told.channel;
+    *index = told.index;
+    told.number
+}
+
+// The same, but a reading that is not finite is refused, with its channel and index.
+#[no_mangle]
+pub extern "C" fn overbrindle_detect_multi_strict(
+    cost: u32,
+    penalty_kind: u32,
+    penalty: f64,
+    min_segment_len: usize,
+    readings: &[f64],
+    lengths: &[usize],
+    cuts: &mut [usize],
+    floats: &mut [f64],
+    indices: &mut [usize],
+    pool: &mut [f64],
+    count: &mut usize,
+    channel: &mut usize,
+    index: &mut usize,
+) -> u32
+    ensures { λ r. ⌜ Asked true cost «penalty_kind» penalty «min_segment_len» (now (readings .entry)) (now (lengths .entry)) (now (cuts .entry)) (now (cuts .exit)) (now (floats .entry)) (now (floats .exit)) (now (indices .entry)) (now (indices .exit)) (now (pool .entry)) (now (pool .exit)) (toldAs r (now (count .exit)) (now (channel .exit)) (now (index .exit))) ⌝ }
+{
+    let told = asked::search(
+        true,
+        cost,
+        penalty_kind,
+        penalty,
+        min_segment_len,
+        readings,
+        lengths,
+        cuts,
+        floats,
+        indices,
+        pool,
+    );
+    *count = told.count;
+    *channel = told.channel;
+    *index = told.index;
+    told.number
+}
+
+// The length, mean and spread of the readings of a channel from start up to end, without end; zeros
+// on a refusal.
+#[no_mangle]
+pub extern "C" fn overbrindle_piece_summary(
+    channel: &[f64],
+    start: usize,
+    end: usize,
+    length: &mut usize,
+    mean: &mut f64,
+    spread: &mut f64,
+) -> u32
+    ensures { λ r. ⌜ pieceAs r (now (length .exit)) (now (mean .exit)) (now (spread .exit)) ≡ pieceOf (summarisedAs (now (channel .entry)) start end) ⌝ }
+{
+    let told = told::piece(piece::summary(channel, start, end));
+    *length = told.length;
+    *mean = told.mean;
+    *spread = told.spread;
+    told.number
+}
+
+// The records of a CUSUM chart, one array for each field, and how many there are; 0 on a refusal.
+#[no_mangle]
+pub extern "C" fn overbrindle_cusum_analyze(
+    target: f64,
+    sigma: f64,
+    k: f64,
+    h: f64,
+    data: &[f64],
+    s_upper: &mut [f64],
+    s_lower: &mut [f64],
+    signal: &mut [u8],
+    index: &mut [usize],
+    count: &mut usize,
+) -> u32
+    ensures { λ r. ⌜ CusumArrays (Cusums.withParams target sigma k h) (now («data» .entry)) (now («s_upper» .entry)) (now («s_upper» .exit)) (now («s_lower» .entry)) (now («s_lower» .exit)) (now (signal .entry)) (now (signal .exit)) (now (index .entry)) (now (index .exit)) (countedAs r (now (count .exit))) ⌝ }
+{
+    let chart = Cusum {
+        target,
+        sigma,
+        k,
+        h,
+    };
+    let told = columns::cusum_analyze(chart, data, s_upper, s_lower, signal, index);
+    *count = told.count;
+    told.number
+}
+
+// The indices of the readings that signal on a CUSUM chart, and how many there are; 0 on a refusal.
+#[no_mangle]
+pub extern "C" fn overbrindle_cusum_signal_points(
+    target: f64,
+    sigma: f64,
+    k: f64,
+    h: f64,
+    data: &[f64],
+    points: &mut [usize],
+    count: &mut usize,
+) -> u32
+    ensures { λ r. ⌜ CusumMarks (Cusums.withParams target sigma k h) (now («data» .entry)) (now (points .entry)) (now (points .exit)) (countedAs r (now (count .exit))) ⌝ }
+{
+    let chart = Cusum {
+        target,
+        sigma,
+        k,
+        h,
+    };
+    let told = told::points(chart.signal_points(data, points));
+    *count = told.count;
+    told.number
+}
+
+// The reading, from 1, at which a fresh CUSUM chart that is fed one level first has the sum of a side
+// above h; 0 where it has not within 4,096 readings, and on a refusal. Side 0 upper, 1 lower.
+#[no_mangle]
+pub extern "C" fn overbrindle_cusum_run_length(
+    target: f64,
+    sigma: f64,
+    k: f64,
+    h: f64,
+    level: f64,
+    side: u32,
+    reading: &mut usize,
+) -> u32
+    ensures { λ r. ⌜ countedAs r (now (reading .exit)) ≡ countedOf (runLengthOf (Cusums.withParams target sigma k h) level side) ⌝ }
+{
+    let chart = Cusum {
+        target,
+        sigma,
+        k,
+        h,
+    };
+    let told = told::run_length(chart, level, side);
+    *reading = told.count;
+    told.number
+}
+
+// The records of an EWMA chart, one array for each field, and how many there are; 0 on a refusal.
+#[no_mangle]
+pub extern "C" fn overbrindle_ewma_analyze(
+    target: f64,
+    sigma: f64,
+    lambda: f64,
+    l_factor: f64,
+    data: &[f64],
+    ewma: &mut [f64],
+    ucl: &mut [f64],
+    lcl: &mut [f64],
+    signal: &mut [u8],
+    index: &mut [usize],
+    count: &mut usize,
+) -> u32
+    ensures { λ r. ⌜ EwmaArrays (Ewmas.withParams target sigma lambda «l_factor») (now («data» .entry)) (now (ewma .entry)) (now (ewma .exit)) (now (ucl .entry)) (now (ucl .exit)) (now (lcl .entry)) (now (lcl .exit)) (now (signal .entry)) (now (signal .exit)) (now (index .entry)) (now (index .exit)) (countedAs r (now (count .exit))) ⌝ }
+{
+    let chart = Ewma {
+        target,
+        sigma,
+        lambda,
+        l_factor,
+    };
+    let told = columns::ewma_analyze(chart, data, ewma, ucl, lcl, signal, index);
+    *count = told.count;
+    told.number
+}
+
+// The indices of the readings that signal on an EWMA chart, and how many there are; 0 on a refusal.
+#[no_mangle]
+pub extern "C" fn overbrindle_ewma_signal_points(
+    target: f64,
+    sigma: f64,
+    lambda: f64,
+    l_factor: f64,
+    data: &[f64],
+    points: &mut [usize],
+    count: &mut usize,
+) -> u32
+    ensures { λ r. ⌜ EwmaMarks (Ewmas.withParams target sigma lambda «l_factor») (now («data» .entry)) (now (points .entry)) (now (points .exit)) (countedAs r (now (count .exit))) ⌝ }
+{
+    let chart = Ewma {
+        target,
+        sigma,
+        lambda,
+        l_factor,
+    };
+    let told = told::points(chart.signal_points(data, points));
+    *count = told.count;
+    told.number
+}
+
+// The noise variance of a channel, worked out in the places of an area from a place on, one fewer than
+// there are readings; they are +0 afterwards. NaN where there is no room.
+#[no_mangle]
+pub extern "C" fn overbrindle_noise_variance(channel: &[f64], area: &mut [f64], place: usize) -> f64
+    ensures { λ r. ⌜ Lent (noise (now (channel .entry))) (length (now (channel .entry))) place (now (area .entry)) (now (area .exit)) r ⌝ }
+{
+    noise::noise_variance(channel, area, place)
 }

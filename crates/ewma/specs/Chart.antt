@@ -72,6 +72,9 @@ startState c = record { shown = fresh c }
 abbrev pub nextState : Ewma → State → ℕ → Float → State
 nextState c s i x = record { shown = stepOf c (s .shown) (record { 0 = i }) x }
 
+abbrev pub followingState : Ewma → List Float → ℕ → State → State
+followingState = Runs.following nextState
+
 -- the record of the reading at i, those of the first n, and the indices among them that signal
 abbrev pub recordAt : Ewma → List Float → ℕ → EwmaResult
 recordAt = Runs.recordAt shownOf startState nextState

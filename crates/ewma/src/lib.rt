@@ -13,9 +13,10 @@ use charts::Charted;
 use charts::Observation;
 use charts::Signalled;
 use points::mark;
-use step::judge;
+pub use step::following;
+pub use step::judge;
 use step::next;
-use step::start;
+pub use step::start;
 
 pub struct Ewma {
     pub target: f64,

@@ -4,7 +4,7 @@ ghost use Prim.Native.Nat.{_≤_, _<_, _^_};
 ghost use lib.ListN.{length, getD};
 ghost use lib.Ieee.{nan};
 ghost use Rattle.charts.specs.Answers.{admittedAs};
-ghost use Rattle.ewma.specs.Chart.{accepted, halfWidth, placeOf, stepOf, startState, nextState};
+ghost use Rattle.ewma.specs.Chart.{accepted, halfWidth, placeOf, stepOf, startState, nextState, followingState};
 use crate::Ewma;
 use crate::EwmaResult;
 use crate::State;
@@ -24,7 +24,7 @@ fn accepted(chart: Ewma) -> bool
 }
 
 // What a call answers, for so many readings and room for so many results.
-pub(crate) fn judge(chart: Ewma, readings: usize, room: usize) -> Charted
+pub fn judge(chart: Ewma, readings: usize, room: usize) -> Charted
     ensures { λ r. ⌜ r ≡ admittedAs (accepted chart) readings room ⌝ }
 {
     charts::admitted(accepted(chart), readings, room)
@@ -79,7 +79,7 @@ fn step(chart: Ewma, before: EwmaResult, index: Observation, x: f64) -> EwmaResu
 }
 
 // Before the first reading the statistic is the target.
-pub(crate) fn start(chart: Ewma) -> State
+pub fn start(chart: Ewma) -> State
     ensures { λ r. ⌜ r ≡ startState chart ⌝ }
 {
     let shown = EwmaResult {
@@ -100,4 +100,14 @@ pub(crate) fn next(chart: Ewma, data: &[f64], i: usize, state: State) -> State
     let before = state.shown;
     let after = step(chart, before, Observation(i), data[i]);
     State { shown: after }
+}
+
+// The state after the reading at i, and the same state where there is no such reading.
+pub fn following(chart: Ewma, data: &[f64], i: usize, state: State) -> State
+    ensures { λ r. ⌜ r ≡ followingState chart (now («data» .entry)) i state ⌝ }
+{
+    if i < data.len() {
+        return next(chart, data, i, state);
+    }
+    state
 }

@@ -1,0 +1,4 @@
+pub mod Lengths
+pub mod CusumLaws
+pub mod EwmaLaws
+pub mod Outcomes

@@ -1,0 +1,22 @@
+-- `told::refused` meets its contract: 8 with its place, and every other by its number. Assumes nothing.
+use borrow.Author.Needs.{needs}
+use Rattle.told.specs.Told.{toldOf}
+use Rattle.told.proofs.Numbers.{told-bare}
+use Rattle.told.proofs.refused.Statement.{statement}
+use Rattle.told.proofs.refused.Tie as tie
+
+number-of-requires : tie.Need-number-of-requires
+number-of-requires c κs = tt
+
+enum-known-refusal : tie.Need-enum-known-refusal
+enum-known-refusal c = search needs
+
+returns : tie.Need-returns
+unfolding toldOf
+returns c = rw (c .before .before .before .number-of .ensures, c .before .refusal .given .1)
+
+returns-2 : tie.Need-returns-2
+returns-2 c = told-bare (c .before .before .args .refusal) _ (c .before .number-of .ensures) (c .match .keys2)
+
+pub refused-spec : {M : Type 1} → statement M
+refused-spec = tie.close (tie.spec number-of-requires enum-known-refusal returns returns-2)

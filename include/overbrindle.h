@@ -1,0 +1,127 @@
+/* Overbrindle for C and for every language that calls C.
+ *
+ * Change detection and control charts whose every answer is proved. `rt staticlib desk` proves the
+ * library and writes target/staticlib/libdesk.a, for x86-64 Linux. It needs memcpy and memset of the C
+ * library and nothing else:
+ *
+ *     cc -Iinclude program.c target/staticlib/libdesk.a -o program
+ *
+ * How to call it
+ *
+ * - A slice is a pointer and the number of its elements. The pointer is never null and is aligned,
+ *   also where there are no elements; the elements are initialised; slices and single results that a
+ *   call writes to overlap nothing else that it is given. This is all that a caller has to see to:
+ *   sizes, settings and readings are checked, and nothing is allocated or kept.
+ * - A call returns 0 with an answer, and otherwise the number of the refusal:
+ *
+ *      1 Penalty    a custom penalty is not finite or not above 0
+ *      2 MinLen     a minimum length below 2
+ *      3 Channels   more than 8 lengths
+ *      4 Shape      the lengths don't add up to the number of readings
+ *      5 Unequal    two lengths differ
+ *      6 TooLong    more than 4,096 readings a channel
+ *      7 Room       a slice is shorter than said below
+ *      8 NonFinite  a reading or level is NaN or infinite (strict search and run length only)
+ *      9 Pool       the functional search needs more candidate slots than the pool has
+ *     10 Form       a number that stands for no cost, penalty or side; tried first
+ *     11 Chart      a chart setting is out of range
+ *     12 Piece      a piece whose start is not below its end, or whose end is past the channel
+ *
+ * - Single results are written on every call, and are 0 on a refusal, but for the place of 8.
+ * - What each call answers and leaves is proved to equal definitions; docs/PROMISES.md names them.
+ *
+ * A search over two channels of four readings
+ *
+ *     double readings[] = {0, 0, 4, 4,  1, 1, 1, 1};
+ *     size_t lengths[] = {4, 4}, cuts[2], indices[15], count, channel, index;
+ *     double floats[30], pool[40 * OVERBRINDLE_SLOT];
+ *     ... (set floats, indices, pool and cuts to anything, once)
+ *     if (overbrindle_detect_multi_strict(OVERBRINDLE_L2, OVERBRINDLE_CUSTOM, 1.0, 2, readings, 8,
+ *             lengths, 2, cuts, 2, floats, 30, indices, 15, pool, 40 * OVERBRINDLE_SLOT,
+ *             &count, &channel, &index) == 0)
+ *         ... count is 1 and cuts[0] is 2: a piece of readings 0 and 1, and one of 2 and 3
+ */
+#ifndef OVERBRINDLE_H
+#define OVERBRINDLE_H
+
+#include <stddef.h>
+#include <stdint.h>
+
+#ifdef __cplusplus
+extern "C" {
+#endif
+
+enum { OVERBRINDLE_L2 = 0, OVERBRINDLE_NORMAL = 1 };     /* cost */
+enum { OVERBRINDLE_BIC = 0, OVERBRINDLE_CUSTOM = 1 };    /* penalty_kind; BIC does not look at penalty */
+enum { OVERBRINDLE_UPPER = 0, OVERBRINDLE_LOWER = 1 };   /* side */
+enum { OVERBRINDLE_SLOT = 200 };                         /* floats of the pool for one candidate */
+
+/* The cuts of k channels of n readings, which stand one after the other in readings: the indices at
+ * which a new piece begins, lowest first, in the front of cuts; the rest of cuts is left.
+ *
+ * Room: n/2 cuts, (2k + 2)(n + 1) floats, 3(n + 1) indices. L2 on one or two channels needs a slot of
+ * the pool for each candidate that lives at once, else none. From the moment that refusals 1 to 8 and
+ * 10 are passed, floats, indices and pool are all zero afterwards; before, nothing is changed.
+ * *count is the number of cuts; *channel and *index are the place of refusal 8, and else 0.
+ * A plain search takes NaN and infinities as they are; a strict one refuses them. */
+uint32_t overbrindle_detect_multi(uint32_t cost, uint32_t penalty_kind, double penalty,
+    size_t min_segment_len, const double *readings, size_t readings_len,
+    const size_t *lengths, size_t lengths_len, size_t *cuts, size_t cuts_len,
+    double *floats, size_t floats_len, size_t *indices, size_t indices_len,
+    double *pool, size_t pool_len, size_t *count, size_t *channel, size_t *index);
+
+uint32_t overbrindle_detect_multi_strict(uint32_t cost, uint32_t penalty_kind, double penalty,
+    size_t min_segment_len, const double *readings, size_t readings_len,
+    const size_t *lengths, size_t lengths_len, size_t *cuts, size_t cuts_len,
+    double *floats, size_t floats_len, size_t *indices, size_t indices_len,
+    double *pool, size_t pool_len, size_t *count, size_t *channel, size_t *index);
+
+/* The number of readings of a channel from start up to end, without end, their mean and their spread
+ * (the mean square about the mean). */
+uint32_t overbrindle_piece_summary(const double *channel, size_t channel_len,
+    size_t start, size_t end, size_t *length, double *mean, double *spread);
+
+/* The records of a chart over n readings, one array a field: signal is 1 or 0, index counts from 0.
+ * Each array needs n places; those past n are left, and a refusal changes none. *count is n.
+ * A reading that is not finite is a gap: it carries the sums or the statistic on, without a signal.
+ * CUSUM signals where a sum is above h, EWMA where the statistic is outside the limits lcl and ucl. */
+uint32_t overbrindle_cusum_analyze(double target, double sigma, double k, double h,
+    const double *data, size_t data_len, double *s_upper, size_t s_upper_len,
+    double *s_lower, size_t s_lower_len, uint8_t *signal, size_t signal_len,
+    size_t *index, size_t index_len, size_t *count);
+
+uint32_t overbrindle_ewma_analyze(double target, double sigma, double lambda, double l_factor,
+    const double *data, size_t data_len, double *ewma, size_t ewma_len,
+    double *ucl, size_t ucl_len, double *lcl, size_t lcl_len,
+    uint8_t *signal, size_t signal_len, size_t *index, size_t index_len, size_t *count);
+
+/* The indices of the readings that signal, in the front of points, which needs n places; the rest is
+ * left. *count is how many there are. */
+uint32_t overbrindle_cusum_signal_points(double target, double sigma, double k, double h,
+    const double *data, size_t data_len, size_t *points, size_t points_len, size_t *count);
+
+uint32_t overbrindle_ewma_signal_points(double target, double sigma, double lambda, double l_factor,
+    const double *data, size_t data_len, size_t *points, size_t points_len, size_t *count);
+
+/* The reading, 1 to 4,096, at which a fresh CUSUM chart that is fed level alone first has the sum of
+ * a side above h; 0 where none does. */
+uint32_t overbrindle_cusum_run_length(double target, double sigma, double k, double h,
+    double level, uint32_t side, size_t *reading);
+
+/* The noise variance of a channel, as the search with a BIC penalty takes it. It is worked out in
+ * area[place] on, one place fewer than there are readings, which are zero afterwards; NaN, and nothing
+ * written, where area has no room. */
+double overbrindle_noise_variance(const double *channel, size_t channel_len,
+    double *area, size_t area_len, size_t place);
+
+/* The square root, correctly rounded; x to the power n by right-to-left squaring; the natural
+ * logarithm by the library's own rule, the same on every machine. */
+double overbrindle_sqrt(double x);
+double overbrindle_powi(double x, uint64_t n);
+double overbrindle_ln(double x);
+
+#ifdef __cplusplus
+}
+#endif
+
+#endif
