@@ -7,12 +7,8 @@ use native.Mathlib.Omega.{arith}
 use native.Mathlib.Nat.{not-suc-le-zero, not-le-of-lt, pow-suc}
 use borrow.Author.Tests.{lt-ltb, le-ltb, ltb-false}
 use lib.Dec.{ltb}
-use types.Run.{OneOf, miss}
-use denote.Enum.Declared.{tagOf}
-use Rattle.refusals.specs.Stated.{stated}
+use Rattle.refusals.specs.Stated.{Stated, stated, plain}
 use Rattle.refusals.specs.declared.Refusal.{Refusal}
-use Rattle.refusals.specs.declared.Refusal.the-variants as Refusal
-use Rattle.refusals.proofs.Refusal.{the-type as refusal-enum}
 use lib.ListN.{length, set, length-append}
 use lib.Seq.{sets, length-sets, append-snoc}
 use Rattle.refusals.specs.Said.{answered, refused}
@@ -132,21 +128,10 @@ written-at {xs} {at} {next} {last} {a} {b} e p = record { place = rw (← e) (p 
 pub written-long : {xs : List ℕ} {at next : ℕ} {a b : List ℕ} → Written xs at a b next → length b ≡ length a
 written-long {xs} {at} {next} {a} {b} p = rw (p .area) (length-sets a at xs)
 
--- ---- only refusal 8 has values
-pub values-none : (r : Refusal) → OneOf (0 ∷ 1 ∷ 2 ∷ 3 ∷ 4 ∷ 5 ∷ 6 ∷ 8 ∷ 9 ∷ 10 ∷ 11 ∷ []) (tagOf refusal-enum r) → spaced (stated r .values) ≡ []
+-- ---- a refusal without values
+pub values-none : (r : Refusal) → stated r ≡ plain (stated r .number) → spaced (stated r .values) ≡ []
 unfolding spaced
-values-none Refusal.Penalty k = refl
-values-none Refusal.MinLen k = refl
-values-none Refusal.Channels k = refl
-values-none Refusal.Shape k = refl
-values-none Refusal.Unequal k = refl
-values-none Refusal.TooLong k = refl
-values-none Refusal.Room k = refl
-values-none (Refusal.NonFinite channel index) k = absurd (miss (0 ∷ 1 ∷ 2 ∷ 3 ∷ 4 ∷ 5 ∷ 6 ∷ 8 ∷ 9 ∷ 10 ∷ 11 ∷ []) 7 tt k)
-values-none Refusal.Pool k = refl
-values-none Refusal.Form k = refl
-values-none Refusal.Chart k = refl
-values-none Refusal.Piece k = refl
+values-none r h = ap (λ (s : Stated). spaced (s .values)) h
 
 -- ---- the two forms of an answer, piece by piece
 pub cuts-text : (cuts : List ℕ) {count : ℕ} → length cuts ≡ count → cutsWord ++ spaced (count ∷ []) ++ (newline ∷ []) ++ lines cuts ≡ text (answered cuts)

@@ -1,6 +1,6 @@
 -- `told::number_of` meets its contract. Assumes nothing.
 use native.Mathlib.Omega.{arith}
-use Rattle.told.proofs.Numbers.{small}
+use Rattle.refusals.proofs.Values.{number-small}
 use Rattle.told.proofs.number_of.Statement.{statement}
 use Rattle.told.proofs.number_of.Tie as tie
 
@@ -8,7 +8,7 @@ number-requires : tie.Need-number-requires
 number-requires c κs = tt
 
 cast-result : tie.Need-cast-result
-cast-result c = let h = small (c .before .args .refusal) in let e = c .number .ensures in record { fits = omega (arith, h, e) }
+cast-result c = let h = number-small (c .before .args .refusal) in let e = c .number .ensures in record { fits = omega (arith, h, e) }
 
 returns : tie.Need-returns
 returns c = c .number .ensures

@@ -1,6 +1,7 @@
 -- `told::refused` meets its contract: 8 with its place, and every other by its number. Assumes nothing.
 use borrow.Author.Needs.{needs}
 use Rattle.told.specs.Told.{toldOf}
+use Rattle.refusals.proofs.Values.{stated-bare}
 use Rattle.told.proofs.Numbers.{told-bare}
 use Rattle.told.proofs.refused.Statement.{statement}
 use Rattle.told.proofs.refused.Tie as tie
@@ -16,7 +17,7 @@ unfolding toldOf
 returns c = rw (c .before .before .before .number-of .ensures, c .before .refusal .given .1)
 
 returns-2 : tie.Need-returns-2
-returns-2 c = told-bare (c .before .before .args .refusal) _ (c .before .number-of .ensures) (c .match .keys2)
+returns-2 c = told-bare (c .before .before .args .refusal) _ (c .before .number-of .ensures) (stated-bare (c .before .before .args .refusal) (c .match .keys2))
 
 pub refused-spec : {M : Type 1} → statement M
 refused-spec = tie.close (tie.spec number-of-requires enum-known-refusal returns returns-2)

@@ -5,6 +5,7 @@ use native.Mathlib.Omega.{arith}
 use lib.ListN.{length}
 use borrow.Author.Needs.{needs}
 use Rattle.fields.specs.Lines.{spaced}
+use Rattle.refusals.proofs.Values.{stated-bare}
 use Rattle.fields.proofs.LineLaws.{spaced-short, spaced-append, written-none, written-then, written-as, values-none}
 use Rattle.fields.proofs.lines.put_values.Statement.{statement}
 use Rattle.fields.proofs.lines.put_values.Tie as tie
@@ -30,7 +31,7 @@ returns c = let g = c .before .before .before .before .before .before .before .b
     (rw (g .1) (written-as (sym (spaced-append _ _)) (written-then (c .before .before .before .before .before .before .put-spaced .ensures) (c .before .before .put-spaced2 .ensures))), omega (arith, s, t, c .before .before .before .before .before .before .put-spaced .ensures .place, c .before .before .put-spaced2 .ensures .place))
 
 returns-2 : tie.Need-returns-2
-returns-2 c = (written-as (sym (values-none (c .before .before .args .refusal) (c .match .keys2))) (written-none _ _), omega arith)
+returns-2 c = (written-as (sym (values-none (c .before .before .args .refusal) (stated-bare (c .before .before .args .refusal) (c .match .keys2)))) (written-none _ _), omega arith)
 
 pub put-values-spec : {M : Type 1} → statement M
 put-values-spec =
