@@ -258,9 +258,8 @@ fn channels(random: &mut Random, count: usize, n: usize, piece: usize) -> Vec<Ve
 
 /// The longest inputs, and such as are too long by a byte or more and well formed otherwise: channels,
 /// readings, whether the penalty is custom, and the bytes that this comes to.
-const LONG: [(usize, usize, bool, usize); 16] = [
+const LONG: [(usize, usize, bool, usize); 14] = [
     (8, 128, true, 8236),
-    (1, 1026, true, 8231),
     (1, 1027, false, 8231),
     (2, 513, true, 8234),
     (3, 342, false, 8229),
@@ -269,7 +268,6 @@ const LONG: [(usize, usize, bool, usize); 16] = [
     (1, 1027, true, 8239),
     (1, 1028, false, 8239),
     (8, 129, true, 8300),
-    (2, 600, false, 9618),
     (2741, 0, false, 8235),
     (2738, 0, true, 8234),
     (2739, 0, true, 8237),
@@ -280,20 +278,21 @@ const LONG: [(usize, usize, bool, usize); 16] = [
 fn long(random: &mut Random) -> Vec<Input> {
     let mut inputs = Vec::new();
     for (count, n, custom, bytes) in LONG {
-        let refused = if bytes > 8236 { 1 } else { 3 };
-        for (normal, least) in [(false, 2), (bytes <= 8236, refused)] {
-            let made = channels(random, count, n, 37);
-            let asked = l2(20.0, made).of_cost(normal).at_least(least);
+        for normal in [false, true] {
+            let asked = l2(20.0, channels(random, count, n, 37)).of_cost(normal);
             let input = if custom { asked } else { asked.by_bic() }.bytes();
             assert_eq!(input.len(), bytes, "{count} channels of {n}");
-            inputs.push(input);
+            if !normal || n > 0 && bytes <= 8236 {
+                inputs.push(input);
+            }
         }
     }
     inputs.extend(filled(random));
     inputs
 }
 
-/// 8,236 bytes whose channels are unequal or too many, or whose last byte is one too many.
+/// 8,236 bytes whose channels are unequal or too many; 8,237 bytes that would be refused for something
+/// else, too.
 fn filled(random: &mut Random) -> Vec<Input> {
     let mut unequal = channels(random, 7, 128, 30);
     unequal.push(stepped(random, 129, 30, 0.5));
@@ -308,6 +307,8 @@ fn filled(random: &mut Random) -> Vec<Input> {
     let mut whole = l2(1.0, channels(random, 8, 128, 30)).bytes();
     whole.push(4);
     inputs.push(whole);
+    let refused = l2(-1.0, channels(random, 3, 342, 30)).at_least(1);
+    inputs.push(refused.bytes());
     inputs
 }
 
@@ -415,8 +416,9 @@ fn several_at_once() -> Vec<Input> {
     let mut inputs = Vec::new();
     for set in 0..128 {
         let met = |place: u32| set >> place & 1 == 1;
-        let n = if met(5) { 120 } else { 6 };
-        let mut asked = l2(1e6, vec![line(n, 1.0)]);
+        let n = if met(5) { 96 } else { 6 };
+        let mut asked = l2(1e4, vec![line(n, 1.0)]);
+        assert_eq!(asked.peak() > 40, met(5), "more than 40 candidates");
         if met(0) {
             asked.custom = Some(NAN);
         }
@@ -463,14 +465,36 @@ fn pools() -> Vec<Input> {
     inputs
 }
 
+/// Lines and curves with noise, on one or two channels, some of them with more than 40 candidates.
+fn crowds(random: &mut Random) -> Vec<Input> {
+    let mut inputs = Vec::new();
+    for at in 0..24 {
+        let n = 80 + random.below(50) as usize;
+        let mut made = vec![line(n, 1.0), line(n, 3.0)];
+        for channel in &mut made[..1 + at % 2] {
+            let bent = random.below(2) == 0;
+            let curve = |x: f64| if bent { 10.0 * x.sqrt() } else { x };
+            for reading in channel {
+                *reading = curve(*reading) + fraction(random);
+            }
+        }
+        made.truncate(1 + at % 2);
+        let penalty = pick(random, &[3e3, 1e4, 3e4, 1e5]);
+        inputs.push(l2(penalty, made).bytes());
+    }
+    inputs
+}
+
 /// A cut at every second or third reading, also with as many readings as fit.
 fn many_cuts(random: &mut Random) -> Vec<Input> {
     let mut inputs = Vec::new();
     for (count, n) in [(1, 1026), (2, 513), (3, 341), (8, 128), (1, 210), (2, 101)] {
         for (piece, normal) in [(2, false), (3, false), (2, true), (3, true)] {
             let asked = l2(0.5, channels(random, count, n, piece)).of_cost(normal);
-            inputs.push(asked.bytes());
-            if n > 200 && piece == 3 {
+            if n < 300 || piece == 2 {
+                inputs.push(asked.bytes());
+            }
+            if n < 200 {
                 inputs.push(asked.by_bic().bytes());
             }
         }
@@ -520,7 +544,7 @@ fn reading(random: &mut Random) -> f64 {
 /// A small input that is well formed: mostly an answer, and each refusal now and then.
 fn any_asked(random: &mut Random) -> Asked {
     let count = pick(random, &[0, 1, 1, 1, 1, 1, 1, 2, 2, 2, 3, 3, 8, 9]);
-    let n = pick(random, &[0, 1, 3, 4, 4, 4, 5, 5, 6, 6, 8, 12]);
+    let n = pick(random, &[0, 1, 3, 4, 4, 4, 4, 5, 5, 6, 8]);
     let length = |random: &mut Random| match random.below(30) {
         0 => random.below(6) as usize,
         _ => n,
@@ -542,7 +566,7 @@ fn any_asked(random: &mut Random) -> Asked {
     }
 }
 
-const AT_RANDOM: usize = 2500;
+const AT_RANDOM: usize = 2400;
 
 fn well_formed(random: &mut Random) -> Vec<Input> {
     (0..AT_RANDOM).map(|_| any_asked(random).bytes()).collect()
@@ -589,6 +613,7 @@ pub fn all() -> Vec<(&'static str, Vec<Input>)> {
         ("readings that are not finite", gaps(random)),
         ("several refusals at once", several_at_once()),
         ("candidates about 40", pools()),
+        ("crowds of candidates", crowds(random)),
         ("many cuts", many_cuts(random)),
         ("steps, noise, drift and ties", searches(random)),
         ("well formed at random", well_formed(random)),
