@@ -11,6 +11,7 @@
 mod state;
 mod stored;
 
+use fields::Printed;
 use state::State;
 use state::kind_of;
 use stored::OUTPUT;
@@ -29,6 +30,18 @@ fn first_unlike(expected: &[u8; OUTPUT], got: &[u8; OUTPUT]) -> usize {
     i
 }
 
+// Compares an output with the stored one.
+fn compare(state: State, expected: &[u8; OUTPUT], length: usize, printed: Printed) -> State {
+    let kind = kind_of(expected);
+    let counted = state.counted(kind);
+    let got = printed.bytes;
+    let at = first_unlike(expected, &got);
+    if charts::both(at == OUTPUT, length == printed.length) {
+        return counted;
+    }
+    counted.differing(kind, at)
+}
+
 // The next case: an input and the output that is to come of it.
 fn replay_case(state: State) -> State {
     let mut input = [0; OUTPUT];
@@ -40,9 +53,7 @@ fn replay_case(state: State) -> State {
     }
     let length = asked.length;
     let printed = fields::answer(&input[..length]);
-    let got = printed.bytes;
-    let at = first_unlike(&expected, &got);
-    state.compared(kind_of(&expected), stored.length, printed.length, at)
+    compare(state, &expected, stored.length, printed)
 }
 
 // Replays the cases of standard input up to the end, which is an `e`. The count ends the loop, since

@@ -1,7 +1,6 @@
 // What was compared so far, by the kind of the stored output.
 use crate::stored::OUTPUT;
 use libc::STDOUT_FILENO;
-use replay::Tally;
 
 pub(crate) struct State {
     // How many cases there were of each kind, and how many of them differ.
@@ -24,6 +23,11 @@ fn print_count(name: &[u8], count: u64) {
     io::print_decimal(STDOUT_FILENO, count);
 }
 
+fn print_line(name: &[u8], count: u64) {
+    print_count(name, count);
+    io::write_all(STDOUT_FILENO, b"\n");
+}
+
 // What a digit counts, which is less than there are kinds.
 fn digit(byte: u8) -> usize {
     byte as usize % State::KINDS
@@ -42,6 +46,23 @@ pub(crate) fn kind_of(output: &[u8; OUTPUT]) -> usize {
     } else {
         State::CUTS
     }
+}
+
+fn print_kind(kind: usize) {
+    if kind == State::CUTS {
+        io::write_all(STDOUT_FILENO, b" answers with cuts");
+    } else if kind == State::NO_CUTS {
+        io::write_all(STDOUT_FILENO, b" answers without a cut");
+    } else {
+        print_count(b" refusals ", kind as u64);
+    }
+}
+
+fn report_kind(kind: usize, cases: u64, differ: u64) {
+    io::print_decimal(STDOUT_FILENO, cases);
+    print_kind(kind);
+    print_count(b", ", differ);
+    io::write_all(STDOUT_FILENO, b" differ\n");
 }
 
 impl State {
@@ -64,63 +85,46 @@ impl State {
 
     // The case that would be next is not whole, or of no known form.
     pub(crate) fn stopped(mut self) -> State {
-        print_count(b"stopped behind case ", self.begun);
-        io::write_all(STDOUT_FILENO, b"\n");
+        print_line(b"stopped behind case ", self.begun);
         self.whole = false;
         self
     }
 
-    // Shows a difference, while lines are left.
-    fn shown(mut self, expected: usize, got: usize, at: usize) -> State {
+    // Shows where a case differs, while lines are left: behind the last byte it is the length alone.
+    fn shown(mut self, at: usize) -> State {
         if self.lines == 0 {
             return self;
         }
         self.lines = self.lines - 1;
         print_count(b"case ", self.begun);
-        print_count(b" differs: length expected ", expected as u64);
-        print_count(b" got ", got as u64);
-        print_count(b", first other byte at ", at as u64);
-        io::write_all(STDOUT_FILENO, b"\n");
+        print_line(b" differs at byte ", at as u64);
         self
     }
 
-    // Counts a case of a kind, by whether the length is as expected and no byte is another.
-    pub(crate) fn compared(mut self, kind: usize, expected: usize, got: usize, at: usize) -> State {
+    // Counts a case of a kind.
+    pub(crate) fn counted(mut self, kind: usize) -> State {
         self.begun = one_more(self.begun);
-        if State::KINDS <= kind {
-            return self.stopped();
+        if kind < State::KINDS {
+            self.cases[kind] = one_more(self.cases[kind]);
         }
-        self.cases[kind] = one_more(self.cases[kind]);
-        if charts::both(expected == got, at == OUTPUT) {
-            return self;
-        }
-        self.differ[kind] = one_more(self.differ[kind]);
-        self.shown(expected, got, at)
+        self
     }
 
-    fn report_kind(self, kind: usize, name: &[u8]) {
-        if State::KINDS <= kind {
-            return;
+    // Counts that a case of a kind differs, and shows it.
+    pub(crate) fn differing(mut self, kind: usize, at: usize) -> State {
+        if kind < State::KINDS {
+            self.differ[kind] = one_more(self.differ[kind]);
         }
-        let tally = Tally {
-            cases: self.cases[kind],
-            differ: self.differ[kind],
-        };
-        tally.report(name);
+        self.shown(at)
     }
 
-    // Prints what was found.
+    // Prints what was found. Cost: one turn for each kind.
     pub(crate) fn report(self) {
-        print_count(b"cases ", self.begun);
-        io::write_all(STDOUT_FILENO, b"\n");
-        self.report_kind(State::CUTS, b" answers with cuts, ");
-        self.report_kind(State::NO_CUTS, b" answers without a cut, ");
-        self.report_kind(1, b" refusals 1, ");
-        self.report_kind(2, b" refusals 2, ");
-        self.report_kind(3, b" refusals 3, ");
-        self.report_kind(5, b" refusals 5, ");
-        self.report_kind(8, b" refusals 8, ");
-        self.report_kind(9, b" refusals 9, ");
-        self.report_kind(10, b" refusals 10, ");
+        print_line(b"cases ", self.begun);
+        let mut kind = 1;
+        while kind <= State::CUTS {
+            report_kind(kind, self.cases[kind], self.differ[kind]);
+            kind += 1;
+        }
     }
 }

@@ -36,14 +36,8 @@ slice-aggregate-answer c = sym (length-take-le _ _ (omega arith))
 answer-requires : tie.Need-answer-requires
 answer-requires c κs = tt
 
-first-unlike-requires : tie.Need-first-unlike-requires
-first-unlike-requires c κs = tt
-
-kind-of-requires : tie.Need-kind-of-requires
-kind-of-requires c κs = tt
-
-compared-requires : tie.Need-compared-requires
-compared-requires c κs = tt
+compare-requires : tie.Need-compare-requires
+compare-requires c κs = tt
 
 returns-2 : tie.Need-returns-2
 returns-2 c = tt
@@ -62,7 +56,5 @@ replay-case-spec =
     array-share-prefix-input
     slice-aggregate-answer
     answer-requires
-    first-unlike-requires
-    kind-of-requires
-    compared-requires
+    compare-requires
     returns-2)
