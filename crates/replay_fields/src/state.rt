@@ -8,8 +8,8 @@ pub(crate) struct State {
     pub differ: [u64; State::KINDS],
     // How many cases were begun.
     pub begun: u64,
-    // How many differences may still be shown.
-    pub lines: u64,
+    // How many of them differ, of whatever kind.
+    pub unlike: u64,
     // Whether each case so far was whole.
     pub whole: bool,
 }
@@ -48,6 +48,16 @@ pub(crate) fn kind_of(output: &[u8; OUTPUT]) -> usize {
     }
 }
 
+fn print_unlike(differ: u64) {
+    print_count(b", ", differ);
+    io::write_all(STDOUT_FILENO, b" differ\n");
+}
+
+fn report_all(cases: u64, differ: u64) {
+    print_count(b"cases ", cases);
+    print_unlike(differ);
+}
+
 fn print_kind(kind: usize) {
     if kind == State::CUTS {
         io::write_all(STDOUT_FILENO, b" answers with cuts");
@@ -61,8 +71,7 @@ fn print_kind(kind: usize) {
 fn report_kind(kind: usize, cases: u64, differ: u64) {
     io::print_decimal(STDOUT_FILENO, cases);
     print_kind(kind);
-    print_count(b", ", differ);
-    io::write_all(STDOUT_FILENO, b" differ\n");
+    print_unlike(differ);
 }
 
 impl State {
@@ -78,7 +87,7 @@ impl State {
             cases: [0; State::KINDS],
             differ: [0; State::KINDS],
             begun: 0,
-            lines: 20,
+            unlike: 0,
             whole: true,
         }
     }
@@ -90,14 +99,13 @@ impl State {
         self
     }
 
-    // Shows where a case differs, while lines are left: behind the last byte it is the length alone.
+    // Shows where a case differs, of the first 20: behind the last byte it is the length alone.
     fn shown(mut self, at: usize) -> State {
-        if self.lines == 0 {
-            return self;
+        self.unlike = one_more(self.unlike);
+        if self.unlike <= 20 {
+            print_count(b"case ", self.begun);
+            print_line(b" differs at byte ", at as u64);
         }
-        self.lines = self.lines - 1;
-        print_count(b"case ", self.begun);
-        print_line(b" differs at byte ", at as u64);
         self
     }
 
@@ -120,7 +128,7 @@ impl State {
 
     // Prints what was found. Cost: one turn for each kind.
     pub(crate) fn report(self) {
-        print_line(b"cases ", self.begun);
+        report_all(self.begun, self.unlike);
         let mut kind = 1;
         while kind <= State::CUTS {
             report_kind(kind, self.cases[kind], self.differ[kind]);

@@ -10,11 +10,8 @@ Inv-loop self kind₀ kind = Unit {0}
 abbrev μ-loop : tie.MeasureT-loop
 μ-loop self kind₀ kind = 13 - kind
 
-slice-aggregate-print-line : tie.Need-slice-aggregate-print-line Inv-loop μ-loop
-slice-aggregate-print-line c = search needs
-
-print-line-requires : tie.Need-print-line-requires Inv-loop μ-loop
-print-line-requires c κs = tt
+report-all-requires : tie.Need-report-all-requires Inv-loop μ-loop
+report-all-requires c κs = tt
 
 loop-holds : tie.Need-loop-holds Inv-loop μ-loop
 loop-holds c = tt
@@ -52,8 +49,7 @@ report-spec =
     (tie.spec
     Inv-loop
     μ-loop
-    slice-aggregate-print-line
-    print-line-requires
+    report-all-requires
     loop-holds
     mul-report-kind
     element-copy-out-report-kind
