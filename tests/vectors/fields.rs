@@ -1,5 +1,5 @@
 //! Writes stored inputs and outputs of the program `cuts`. The crate `replay_fields` has them as its
-//! standard input. After the first three commands of `searches.rs`:
+//! standard input. After the commands of `searches.rs`:
 //!
 //!     rustc --edition 2021 -O --extern pelt=target/libpelt.rlib \
 //!         --extern pelt_ruled=target/libpelt_ruled.rlib \
