@@ -1,0 +1,35 @@
+// Reading what a case is made of: so many bytes, with their number in front.
+ghost use Prim.Native.Nat.{_≤_};
+ghost use lib.ListN.{length};
+use libc::STDIN_FILENO;
+use replay::next_block;
+use replay::number;
+
+// As many bytes as an output may have. No stored input has more.
+pub(crate) const OUTPUT: usize = 10841;
+
+// So many bytes stand at the front of an area, if the input had them.
+pub(crate) struct Stored {
+    pub length: usize,
+    pub whole: bool,
+}
+
+// The next bytes: their number in 2 bytes, and each of them, which go to the front of the area.
+pub(crate) fn next_bytes(area: &mut [u8]) -> Stored
+    ensures { λ r. ⌜ r .length ≤ length (now (area .entry)) ⌝ }
+{
+    let block = next_block(2);
+    let digits = block.bytes;
+    let length = number(&digits, 0, 2) as usize;
+    if area.len() < length {
+        return Stored {
+            length: 0,
+            whole: false,
+        };
+    }
+    let count = io::read_full(STDIN_FILENO, &mut area[..length]);
+    Stored {
+        length,
+        whole: charts::both(block.whole, count == length),
+    }
+}
