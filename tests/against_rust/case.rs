@@ -3,6 +3,8 @@
 use crate::calls::{Call, Lent};
 use crate::charts::{self, Chart, RunLength};
 use crate::faults::Fault;
+use crate::lending::Area;
+use crate::noises::Noise;
 use crate::pieces::Piece;
 use crate::searches::{self, Search};
 use crate::{summaries, Outcome};
@@ -15,6 +17,7 @@ pub enum Case {
     Chart(Chart),
     RunLength(RunLength),
     Piece(Piece),
+    Noise(Noise),
 }
 
 /// What is lent to calls, one after the other.
@@ -22,6 +25,7 @@ pub enum Case {
 pub struct Lending {
     search: searches::Areas,
     chart: charts::Areas,
+    noise: Area,
 }
 
 impl Case {
@@ -31,6 +35,7 @@ impl Case {
             Case::Chart(chart) => chart.check(&mut lending.chart, fault),
             Case::RunLength(run_length) => run_length.check(fault),
             Case::Piece(piece) => summaries::check(piece, fault),
+            Case::Noise(noise) => noise.check(&mut lending.noise, fault),
         }
     }
 
@@ -42,6 +47,7 @@ impl Case {
             Case::Chart(chart) => smaller_charts(chart),
             Case::RunLength(run_length) => smaller_run_lengths(run_length),
             Case::Piece(piece) => smaller_pieces(piece),
+            Case::Noise(noise) => smaller_noises(noise),
         }
     }
 }
@@ -271,6 +277,31 @@ fn smaller_pieces(piece: &Piece) -> Vec<Case> {
     pieces.into_iter().map(Case::Piece).collect()
 }
 
+fn smaller_noises(noise: &Noise) -> Vec<Case> {
+    let mut noises = Vec::new();
+    let mut with = |readings: Vec<f64>, place: usize, size: usize| {
+        let readings = Rc::new(readings);
+        noises.push(Case::Noise(Noise {
+            readings,
+            place,
+            size,
+        }));
+    };
+    let Noise { place, size, .. } = *noise;
+    for (start, end) in ranges(noise.readings.len()) {
+        let mut shorter = noise.readings.to_vec();
+        shorter.drain(start..end);
+        with(shorter, place, size.saturating_sub(end - start));
+    }
+    for readings in simpler_readings(&noise.readings) {
+        with(readings, place, size);
+    }
+    if 0 < place && place <= size {
+        with(noise.readings.to_vec(), 0, size - place);
+    }
+    noises
+}
+
 /// The smallest call that can be reached from this one, each step by a smaller one that still differs,
 /// and what differs.
 pub fn shrink(case: Case, lending: &mut Lending, fault: Fault) -> (Case, String) {
@@ -369,6 +400,10 @@ impl fmt::Display for Case {
                     "piece_summary: {start} to {end} of {}",
                     Values(&piece.readings)
                 )
+            }
+            Case::Noise(noise) => {
+                write!(f, "noise_variance: place {} of {}", noise.place, noise.size)?;
+                write!(f, ", readings {}", Values(&noise.readings))
             }
         }
     }

@@ -6,8 +6,9 @@ use crate::case::Case;
 use crate::charts::{Chart, Kind, RunLength};
 use crate::families::{self, any_settings, exhaustive, l2, normal, L2_BIC, NORMAL_BIC};
 use crate::inputs::Random;
+use crate::noises::Noise;
 use crate::pieces::{self, Piece};
-use crate::runs::{kinds, quiet, SIZES};
+use crate::runs::{self, kinds, quiet, SIZES};
 use crate::searches::Search;
 use crate::series::{self, SERIES_KINDS};
 use crate::{charted, series::Settings as ChartSettings};
@@ -26,11 +27,11 @@ pub struct Family {
 /// Of a million cases, how many are of each family whose answers are stored, in the order in which they
 /// stand there. All short series are made here, with longer ones.
 const STORED_SHARES: [usize; 18] = [
-    0, 240_000, 40_000, 50_000, 20_000, 20_000, 6_000, 210, 20_000, 8_000, 1_392, 60_000, 38, 400,
-    550, 6_000, 492, 62,
+    0, 240_000, 40_000, 50_000, 20_000, 20_000, 6_000, 210, 20_000, 8_000, 1_392, 60_000, 38, 600,
+    2_000, 6_000, 492, 62,
 ];
 
-const DRAWN: [(&str, usize, Drawn); 12] = [
+const DRAWN: [(&str, usize, Drawn); 13] = [
     ("about every limit", 120_000, about_limits),
     ("about 4,096 readings", 260, about_longest),
     (
@@ -55,6 +56,7 @@ const DRAWN: [(&str, usize, Drawn); 12] = [
     }),
     ("charts of 4,095 to 4,097 readings", 600, longest_charts),
     ("run lengths", 20_000, run_lengths),
+    ("noise variances", 30_000, noises),
     ("pieces", 60_000, all_pieces),
     ("pieces about 4,096 readings", 600, longest_pieces),
 ];
@@ -344,6 +346,26 @@ fn run_lengths(random: &mut Random) -> Vec<Case> {
         })
     };
     asked.map(case).collect()
+}
+
+/// A noise variance of each channel of the runs whose answers are stored; at times from a place on that no
+/// area has.
+fn noises(random: &mut Random) -> Vec<Case> {
+    let mut cases = Vec::new();
+    for run in runs::runs(random) {
+        for channel in run.channels {
+            let place = match random.below(32) {
+                0 => pick(random, &[run.size, run.size + 1, usize::MAX]),
+                _ => run.place,
+            };
+            cases.push(Case::Noise(Noise {
+                readings: Rc::new(channel),
+                place,
+                size: run.size,
+            }));
+        }
+    }
+    cases
 }
 
 fn all_pieces(random: &mut Random) -> Vec<Case> {

@@ -5,7 +5,7 @@
 #[derive(Clone, Copy, Default)]
 pub struct Fault(Option<&'static str>);
 
-pub const FAULTS: [&str; 29] = [
+pub const FAULTS: [&str; 31] = [
     "search number",
     "search count",
     "search place",
@@ -33,6 +33,8 @@ pub const FAULTS: [&str; 29] = [
     "piece length",
     "piece mean",
     "piece spread",
+    "noise",
+    "noise area",
     "wrapper",
     "elementary",
 ];

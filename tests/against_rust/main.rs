@@ -24,6 +24,7 @@ mod faults;
 #[path = "../vectors/inputs.rs"]
 mod inputs;
 mod lending;
+mod noises;
 #[allow(dead_code)]
 mod overbrindle;
 #[allow(dead_code)]

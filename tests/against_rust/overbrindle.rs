@@ -165,6 +165,11 @@ pub fn piece_summary(channel: &[f64], start: usize, end: usize) -> Result<PieceS
     }
 }
 
+/// The noise variance of a channel, as BIC takes it for L2.
+pub fn noise_variance(channel: &[f64]) -> f64 {
+    lent::noise_variance(channel, &mut vec![0.0; channel.len().saturating_sub(1)], 0)
+}
+
 /// Which sum of a CUSUM chart is asked.
 #[derive(Clone, Copy, Debug, PartialEq, Eq)]
 pub enum Side {
@@ -406,6 +411,21 @@ pub mod lent {
         (number, summary)
     }
 
+    /// By way of the places of the area from this one on, one fewer than there are readings; they are zero
+    /// afterwards. Without room NaN, and nothing is written.
+    pub fn noise_variance(channel: &[f64], area: &mut [f64], place: usize) -> f64 {
+        let (readings, places) = (channel.len(), area.len());
+        unsafe {
+            c::overbrindle_noise_variance(
+                channel.as_ptr(),
+                readings,
+                area.as_mut_ptr(),
+                places,
+                place,
+            )
+        }
+    }
+
     pub struct CusumAreas<'a> {
         pub s_upper: &'a mut [f64],
         pub s_lower: &'a mut [f64],
@@ -582,6 +602,13 @@ mod c {
             mean: *mut f64,
             spread: *mut f64,
         ) -> u32;
+        pub fn overbrindle_noise_variance(
+            channel: *const f64,
+            channel_len: usize,
+            area: *mut f64,
+            area_len: usize,
+            place: usize,
+        ) -> f64;
         pub fn overbrindle_cusum_analyze(
             target: f64,
             sigma: f64,

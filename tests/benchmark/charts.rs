@@ -1,4 +1,4 @@
-//! Whole calls of charts, in room that is lent once.
+//! Whole calls of charts, and noise variances, in room that is lent once.
 
 use crate::inputs::Random;
 use crate::overbrindle::lent::{self, CusumAreas, EwmaAreas};
@@ -81,6 +81,15 @@ pub fn rows(best: Best, random: &mut Random, n: usize) -> Vec<Row> {
             ));
         },
         &mut || drop(black_box(rust.signal_points(black_box(&data)))),
+    );
+    row(
+        "noise variance",
+        &mut || {
+            black_box(lent::noise_variance(black_box(&data), &mut first, 0));
+        },
+        &mut || {
+            black_box(pelt_opened::opened_noise(black_box(&data)));
+        },
     );
     rows
 }

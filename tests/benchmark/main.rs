@@ -46,7 +46,7 @@ fn main() {
         rows.push((sort, row));
     }
     searches::wrapper(best, &mut random, N).print();
-    println!("\nCharts, {N} readings:\n");
+    println!("\nCharts, and the noise variance of BIC, {N} readings:\n");
     head("µs");
     charts::rows(best, &mut random, N)
         .iter()
