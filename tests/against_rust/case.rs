@@ -10,6 +10,10 @@ use crate::searches::{self, Search};
 use crate::{summaries, Outcome};
 use std::fmt;
 use std::rc::Rc;
+use std::time::{Duration, Instant};
+
+/// How long a call is shrunk at most.
+const SHRINKING: Duration = Duration::from_secs(5);
 
 #[derive(Clone)]
 pub enum Case {
@@ -306,11 +310,10 @@ fn smaller_noises(noise: &Noise) -> Vec<Case> {
 /// and what differs.
 pub fn shrink(case: Case, lending: &mut Lending, fault: Fault) -> (Case, String) {
     let mut smallest = case;
-    let mut tries = 20_000;
+    let started = Instant::now();
     'smaller: loop {
         for case in smallest.smaller() {
-            tries -= 1;
-            if tries == 0 {
+            if started.elapsed() > SHRINKING {
                 break 'smaller;
             }
             if case.check(lending, fault).is_err() {
