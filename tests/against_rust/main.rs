@@ -1,6 +1,7 @@
 //! Compares what crate `desk` exports with the Rust, on many calls: every answer, every field, and every
 //! place of every lent area. `tests/against_rust/run` builds and runs it; its arguments are a seed and
-//! the number of cases, and `--fault NAME` to see that a wrong answer is noticed.
+//! the number of cases; after them `--family PART` for the families with this in their name alone, or
+//! `--fault NAME` to see that a wrong answer is noticed.
 //!
 //! It prints how many cases of each family had which outcome, and the largest distances of `ln` and
 //! `powi` from the platform's. A difference that docs/DIFFERENCES.md names is counted under that name;
@@ -130,16 +131,10 @@ impl Run {
     }
 }
 
-/// All short series, as many as may be, and then the drawn families by their shares.
-fn compare_calls(run: &mut Run, random: &mut Random) {
-    let all = drawn::all_short(1).len();
-    let step = all.div_ceil((run.count / SHORT_PART).max(1));
-    let name = match step {
-        1 => "all series of up to 7 readings over a few values".into(),
-        _ => format!("series of up to 7 readings over a few values, every {step}th"),
-    };
-    run.family(&name, drawn::all_short(step).into_iter());
-    let families = drawn::families();
+/// The drawn families with this in their names, by their shares.
+fn compare_drawn(run: &mut Run, random: &mut Random, part: &str) {
+    let mut families = drawn::families();
+    families.retain(|family| family.name.contains(part));
     let shares: usize = families.iter().map(|family| family.share).sum();
     let left = run.count.saturating_sub(run.cases);
     for family in &families {
@@ -149,7 +144,19 @@ fn compare_calls(run: &mut Run, random: &mut Random) {
     }
 }
 
-fn compare(seed: u64, count: usize, fault: Fault) -> ExitCode {
+/// All short series, as many as may be, and then the drawn families.
+fn compare_all(run: &mut Run, random: &mut Random) {
+    let all = drawn::all_short(1).len();
+    let step = all.div_ceil((run.count / SHORT_PART).max(1));
+    let name = match step {
+        1 => "all series of up to 7 readings over a few values".into(),
+        _ => format!("series of up to 7 readings over a few values, every {step}th"),
+    };
+    run.family(&name, drawn::all_short(step).into_iter());
+    compare_drawn(run, random, "");
+}
+
+fn compare(seed: u64, count: usize, part: Option<&str>, fault: Fault) -> ExitCode {
     let mut run = Run {
         fault,
         count,
@@ -162,8 +169,14 @@ fn compare(seed: u64, count: usize, fault: Fault) -> ExitCode {
     };
     println!("seed {seed}, {count} cases");
     let mut random = Random::seeded(seed);
-    compare_calls(&mut run, &mut random);
-    let elementary = elementary::compare(&mut random, (count / 10).max(100), fault);
+    let mut elementary = elementary::Tally::default();
+    match part {
+        Some(part) => compare_drawn(&mut run, &mut random, part),
+        None => {
+            compare_all(&mut run, &mut random);
+            elementary = elementary::compare(&mut random, (count / 10).max(100), fault);
+        }
+    }
     for (name, cases) in &run.named {
         println!("{cases} differ as docs/DIFFERENCES.md says under: {name}");
     }
@@ -182,19 +195,24 @@ fn compare(seed: u64, count: usize, fault: Fault) -> ExitCode {
 fn main() -> ExitCode {
     let words: Vec<String> = std::env::args().skip(1).collect();
     let words: Vec<&str> = words.iter().map(String::as_str).collect();
-    let (numbers, fault) = match words[..] {
-        ["--faults"] => {
-            faults::FAULTS.iter().for_each(|name| println!("{name}"));
-            return ExitCode::SUCCESS;
-        }
-        [seed, count] => ([seed, count].map(str::parse), Some(Fault::default())),
-        [seed, count, "--fault", name] => ([seed, count].map(str::parse), Fault::named(name)),
-        _ => ([Ok(0), Ok(0)], None),
+    if words == ["--faults"] {
+        faults::FAULTS.iter().for_each(|name| println!("{name}"));
+        return ExitCode::SUCCESS;
+    }
+    let (part, fault) = match words.get(2..) {
+        Some([]) => (None, Some(Fault::default())),
+        Some(["--family", part]) => (Some(*part), Some(Fault::default())),
+        Some(["--fault", name]) => (None, Fault::named(name)),
+        _ => (None, None),
     };
-    match (numbers, fault) {
-        ([Ok(seed), Ok(count)], Some(fault)) => compare(seed, count as usize, fault),
+    let number = |at: usize| words.get(at).and_then(|word| word.parse::<u64>().ok());
+    match (number(0), number(1), fault) {
+        (Some(seed), Some(count), Some(fault)) => compare(seed, count as usize, part, fault),
         _ => {
-            eprintln!("give a seed and a number of cases, and after them --fault NAME if one is to be noticed; --faults prints the names");
+            eprintln!(
+                "give a seed and a number of cases, and after them --family PART or --fault NAME;"
+            );
+            eprintln!("--faults prints the names of faults");
             ExitCode::from(2)
         }
     }
