@@ -1,6 +1,31 @@
-//! Best times of two sides that take turns, and the rows that they make.
+//! Best times of two sides that take turns, and the rows that they make. A time is processor time of the
+//! thread, so that what else the machine does counts little.
 
 use std::time::{Duration, Instant};
+
+/// Linux's clock of the processor time of a thread.
+const THREAD_TIME: i32 = 3;
+
+#[repr(C)]
+struct Time {
+    seconds: i64,
+    nanoseconds: i64,
+}
+
+extern "C" {
+    fn clock_gettime(clock: i32, time: *mut Time) -> i32;
+}
+
+/// The processor time that this thread has taken, in microseconds.
+fn thread_time() -> f64 {
+    let mut time = Time {
+        seconds: 0,
+        nanoseconds: 0,
+    };
+    let failed = unsafe { clock_gettime(THREAD_TIME, &mut time) };
+    assert_eq!(failed, 0, "no clock of the thread's time");
+    time.seconds as f64 * 1e6 + time.nanoseconds as f64 / 1e3
+}
 
 /// How often a side is measured at most, and the time after which a row has enough.
 #[derive(Clone, Copy)]
@@ -15,16 +40,16 @@ const A_MEASURE: Duration = Duration::from_millis(4);
 const LEAST_ROUNDS: usize = 3;
 
 fn microseconds(work: &mut impl FnMut(), calls: u32) -> f64 {
-    let start = Instant::now();
+    let start = thread_time();
     (0..calls).for_each(|_| work());
-    start.elapsed().as_secs_f64() * 1e6 / f64::from(calls)
+    (thread_time() - start) / f64::from(calls)
 }
 
 /// How many calls take about as long as a measure. The first call warms up.
 fn calls(work: &mut impl FnMut()) -> u32 {
     work();
     let once = microseconds(work, 1);
-    (A_MEASURE.as_micros() as f64 / once).clamp(1.0, 1e6) as u32
+    (A_MEASURE.as_micros() as f64 / once.max(0.01)).clamp(1.0, 1e6) as u32
 }
 
 impl Best {
