@@ -94,7 +94,7 @@ fn pick<T: Copy>(random: &mut Random, values: &[T]) -> T {
     values[random.below(values.len() as u64) as usize]
 }
 
-fn l2(penalty: f64) -> Settings {
+pub fn l2(penalty: f64) -> Settings {
     Settings {
         normal: false,
         custom: Some(penalty),
@@ -102,7 +102,7 @@ fn l2(penalty: f64) -> Settings {
     }
 }
 
-fn normal(penalty: f64) -> Settings {
+pub fn normal(penalty: f64) -> Settings {
     Settings {
         normal: true,
         custom: Some(penalty),
@@ -110,24 +110,24 @@ fn normal(penalty: f64) -> Settings {
     }
 }
 
-const L2_BIC: Settings = Settings {
+pub const L2_BIC: Settings = Settings {
     normal: false,
     custom: None,
     given: None,
 };
-const NORMAL_BIC: Settings = Settings {
+pub const NORMAL_BIC: Settings = Settings {
     normal: true,
     custom: None,
     given: None,
 };
 
-fn at_least(settings: Settings, m: u64) -> Settings {
+pub fn at_least(settings: Settings, m: u64) -> Settings {
     let given = Some(m);
     Settings { given, ..settings }
 }
 
 /// Any cost, penalty and minimum length for n readings of this scale.
-fn any_settings(random: &mut Random, n: usize, scale: f64) -> Settings {
+pub fn any_settings(random: &mut Random, n: usize, scale: f64) -> Settings {
     let square = scale * scale;
     let unit = if square.is_finite() && square > 0.0 {
         square
@@ -153,7 +153,7 @@ fn all_series(values: &[f64], length: usize) -> Vec<Vec<f64>> {
 }
 
 /// Each series of so many channels of n readings over these values, every `step`th of them.
-fn exhaustive(
+pub fn exhaustive(
     values: &[f64],
     n: usize,
     channels: usize,
@@ -179,7 +179,7 @@ fn exhaustive(
     calls
 }
 
-fn short_series() -> Vec<Call> {
+fn short_series(_: &mut Random) -> Vec<Call> {
     let mut calls = Vec::new();
     let four = [l2(1.0), L2_BIC, normal(1.0), NORMAL_BIC];
     for n in 0..4 {
@@ -416,7 +416,7 @@ fn lists_of_lengths(count: u64) -> Vec<Vec<u64>> {
     ]
 }
 
-fn shapes() -> Vec<Call> {
+fn shapes(_: &mut Random) -> Vec<Call> {
     let mut calls = Vec::new();
     for count in [4, 8, 9, 10, 16] {
         let series = (0..count).map(|i| f64::from(i / 4)).collect();
@@ -538,7 +538,7 @@ fn several_at_once(readings: Vec<f64>, lists: &[Vec<u64>], most: usize) -> Vec<C
     calls
 }
 
-fn combined() -> Vec<Call> {
+fn combined(_: &mut Random) -> Vec<Call> {
     let mut calls = Vec::new();
     let mut short: Vec<f64> = (0..8).map(|i| f64::from(i / 4) * 3.0).collect();
     short[5] = NAN;
@@ -619,7 +619,7 @@ fn with_slots(call: &Call, slots: usize) -> Call {
 }
 
 /// Ramps with a high penalty, in which candidates lose inside more than 64 balls.
-fn ramps() -> Vec<Call> {
+fn ramps(_: &mut Random) -> Vec<Call> {
     let ramp = |n: u32, step: f64| (0..n).map(|i| f64::from(i) * step).collect::<Vec<f64>>();
     let one = Run::new(vec![ramp(300, 1.0)]);
     let two = Run::new(vec![ramp(200, 1.0), ramp(200, 6.0)]);
@@ -682,7 +682,7 @@ fn slack(random: &mut Random) -> Vec<Call> {
 
 /// Channels of infinities of one sign: the noise is NaN and so is the penalty by BIC, and the search goes
 /// on.
-fn nan_penalties() -> Vec<Call> {
+fn nan_penalties(_: &mut Random) -> Vec<Call> {
     let mut calls = Vec::new();
     for channels in 1..=3 {
         for n in 3..12 {
@@ -776,26 +776,26 @@ fn longest(random: &mut Random) -> Vec<Call> {
     calls
 }
 
-pub fn all() -> Vec<(&'static str, Vec<Call>)> {
-    let random = &mut Random::new();
-    vec![
-        ("all short series over a few values", short_series()),
-        ("series of each kind", of_each_kind(random)),
-        ("steps", steps(random)),
-        ("ties", ties(random)),
-        ("constant channels", constant_channels(random)),
-        ("minimum lengths", minimum_lengths(random)),
-        ("custom penalties", penalties(random)),
-        ("lists of lengths", shapes()),
-        ("rooms", rooms(random)),
-        ("readings that are not finite", gaps(random)),
-        ("several refusals at once", combined()),
-        ("pools about the peak", pools(random)),
-        ("ramps with many balls", ramps()),
-        ("balls without a radius", balls_without_radius(random)),
-        ("crowds of candidates", crowds(random)),
-        ("room for rounding", slack(random)),
-        ("penalties that are NaN", nan_penalties()),
-        ("the longest channels", longest(random)),
-    ]
-}
+/// Makes some calls of a family.
+pub type Family = fn(&mut Random) -> Vec<Call>;
+
+pub const FAMILIES: [(&str, Family); 18] = [
+    ("all short series over a few values", short_series),
+    ("series of each kind", of_each_kind),
+    ("steps", steps),
+    ("ties", ties),
+    ("constant channels", constant_channels),
+    ("minimum lengths", minimum_lengths),
+    ("custom penalties", penalties),
+    ("lists of lengths", shapes),
+    ("rooms", rooms),
+    ("readings that are not finite", gaps),
+    ("several refusals at once", combined),
+    ("pools about the peak", pools),
+    ("ramps with many balls", ramps),
+    ("balls without a radius", balls_without_radius),
+    ("crowds of candidates", crowds),
+    ("room for rounding", slack),
+    ("penalties that are NaN", nan_penalties),
+    ("the longest channels", longest),
+];

@@ -11,6 +11,7 @@
 //! for finite that of 1 or 0. Roots, magnitudes and what is finite are the platform's, which IEEE 754
 //! fixes to the bit; it does not fix the others, so they are by the rules of document 01.
 
+#[allow(dead_code)]
 mod inputs;
 mod plain;
 mod rules;

@@ -40,12 +40,23 @@ const SMALLEST_NORMAL: u64 = 1 << 52;
 /// 1.4142135623730951, above which the logarithm's rule halves.
 const ROOT_OF_TWO: u64 = 0x3ff6_a09e_667f_3bcd;
 
-/// The generator xorshift64* with a fixed seed: every run tries the same inputs.
+/// The generator xorshift64*. With the fixed seed of `new` every run tries the same inputs.
 pub struct Random(u64);
 
 impl Random {
     pub fn new() -> Self {
         Random(0x9e37_79b9_7f4a_7c15)
+    }
+
+    /// Another sequence for each seed.
+    pub fn seeded(seed: u64) -> Self {
+        let mut random = Random(seed ^ Random::new().0);
+        // One seed would be the state 0, which stays 0.
+        random.0 = random.0.max(1);
+        for _ in 0..8 {
+            random.next();
+        }
+        random
     }
 
     pub fn next(&mut self) -> u64 {

@@ -1,12 +1,13 @@
 //! Document 01's rules for whole powers and the logarithm, in Rust. They are written from the text
 //! alone, in its order of operations, so that they do not repeat a mistake of ours.
 
-/// The bit pattern of `x`. NaNs count as one value, so every NaN has the same one.
+/// The bit pattern of `x`. NaNs count as one value, so every NaN has the same one. The test is on the
+/// bits: asked whether the float is NaN, Rust 1.95 leaves a root's own NaN bits in place.
 pub fn pattern(x: f64) -> u64 {
-    if x.is_nan() {
-        0x7ff8_0000_0000_0000
-    } else {
-        x.to_bits()
+    let bits = x.to_bits();
+    match bits & !(1 << 63) > f64::INFINITY.to_bits() {
+        true => 0x7ff8_0000_0000_0000,
+        false => bits,
     }
 }
 

@@ -48,6 +48,7 @@ mod runs;
 mod series;
 
 use calls::{Answer, Call, Oracle};
+use inputs::Random;
 use std::io::{self, BufWriter, Write};
 use std::rc::Rc;
 
@@ -133,9 +134,10 @@ fn main() -> io::Result<()> {
         lengths: Vec::new(),
     };
     let mut oracle = Oracle::default();
-    for (name, calls) in families::all() {
+    let mut random = Random::new();
+    for (name, family) in families::FAMILIES {
         let mut written = 0;
-        for call in &calls {
+        for call in &family(&mut random) {
             if let Some(answer) = oracle.answer(call) {
                 writer.call(call, &answer)?;
                 written += 1;

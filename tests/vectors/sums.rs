@@ -35,6 +35,7 @@
 
 #[allow(dead_code)]
 mod inputs;
+mod pieces;
 #[allow(dead_code)]
 mod rules;
 mod runs;
@@ -43,12 +44,9 @@ mod series;
 
 use inputs::Random;
 use pelt_opened::{CostFunction, Penalty};
+use pieces::{Piece, PIECE};
 use runs::Run;
-use series::SERIES_KINDS;
 use std::io::{self, BufWriter, Write};
-
-/// The number of the refusal of a piece.
-const PIECE: u8 = 12;
 
 fn write_values(out: &mut impl Write, values: &[f64]) -> io::Result<()> {
     let mut patterns = values.iter().map(|&x| rules::pattern(x).to_be_bytes());
@@ -75,53 +73,34 @@ fn normal_cost(l2: f64, length: f64) -> f64 {
     }
 }
 
-fn write_piece(out: &mut impl Write, readings: &[f64], start: usize, end: usize) -> io::Result<()> {
+fn write_piece(out: &mut impl Write, piece: &Piece) -> io::Result<()> {
+    let (readings, start, end) = (&piece.readings[..], piece.start, piece.end);
     let (sums, squares, mean) = pelt_opened::opened_sums(readings);
     let (lo, hi) = pelt_opened::opened_range(readings);
-    let accepted = start < end && end <= readings.len();
     let (mut values, mut running) = ([0.0; 4], [0.0; 4]);
-    if accepted {
-        let length = (end - start) as f64;
-        let l2 = pelt_opened::opened_l2(readings, start, end);
-        let centred = (sums[end] - sums[start]) / length;
-        values = [centred + mean, l2 / length, l2, normal_cost(l2, length)];
+    let summary = piece.summary();
+    if let Some(summary) = &summary {
+        let (l2, length) = (summary.l2, summary.length as f64);
+        values = [summary.mean, summary.spread, l2, normal_cost(l2, length)];
         running = [sums[start], sums[end], squares[start], squares[end]];
     }
     out.write_all(b"s")?;
     write_values(out, &values)?;
     write_short(out, readings.len())?;
     write_readings(out, readings)?;
-    out.write_all(&[if accepted { 0 } else { PIECE }])?;
+    out.write_all(&[if summary.is_some() { 0 } else { PIECE }])?;
     write_short(out, start)?;
     write_short(out, end)?;
     write_values(out, &[mean + 0.0, lo + 0.0, hi + 0.0])?;
     write_values(out, &running)
 }
 
-/// All pieces of short channels, refused ones among them, and some of longer ones.
 fn write_pieces(out: &mut impl Write, random: &mut Random) -> io::Result<usize> {
-    let mut pieces = 0;
-    for kind in SERIES_KINDS {
-        for scale in [1.0, 1e-300, 1e200] {
-            for count in 0..5 {
-                let readings = kind(random, 2.0, scale, count);
-                for at in 0..(count + 2) * (count + 2) {
-                    write_piece(out, &readings, at / (count + 2), at % (count + 2))?;
-                    pieces += 1;
-                }
-            }
-            for most in [40, 40, 400] {
-                let count = 2 + random.below(most) as usize;
-                let readings = kind(random, 2.0, scale, count);
-                let start = random.below(count as u64) as usize;
-                let length = 1 + random.below((count - start) as u64) as usize;
-                write_piece(out, &readings, start, start + length)?;
-                pieces += 1;
-            }
-        }
+    let pieces = pieces::pieces(random);
+    for piece in &pieces {
+        write_piece(out, piece)?;
     }
-    write_piece(out, &SERIES_KINDS[1](random, 5.0, 1.0, 4096), 1, 4096)?;
-    Ok(pieces + 1)
+    Ok(pieces.len())
 }
 
 /// The penalties by BIC for L2 and for Normal, with this logarithm of n.

@@ -1,0 +1,53 @@
+//! Wrong answers, made of right ones, to see that the comparison notices them. With `--fault NAME` every
+//! answer that can have the fault has it, and the program has to end with status 1.
+
+/// Whether a fault is asked for.
+#[derive(Clone, Copy, Default)]
+pub struct Fault(Option<&'static str>);
+
+pub const FAULTS: [&str; 31] = [
+    "search number",
+    "search count",
+    "search place",
+    "cut by one",
+    "cuts exchanged",
+    "cuts behind",
+    "cuts beyond",
+    "floats",
+    "floats beyond",
+    "indices",
+    "pool",
+    "cleared by a refusal",
+    "reading changed",
+    "chart number",
+    "chart count",
+    "record bit",
+    "record signal",
+    "record index",
+    "record behind",
+    "points",
+    "points behind",
+    "run length",
+    "run length number",
+    "piece number",
+    "piece length",
+    "piece mean",
+    "piece spread",
+    "noise",
+    "noise area",
+    "wrapper",
+    "elementary",
+];
+
+impl Fault {
+    /// The fault of this name.
+    pub fn named(name: &str) -> Option<Self> {
+        let known = FAULTS.into_iter().find(|&fault| fault == name)?;
+        Some(Fault(Some(known)))
+    }
+
+    pub fn is(self, name: &str) -> bool {
+        debug_assert!(FAULTS.contains(&name));
+        self.0 == Some(name)
+    }
+}

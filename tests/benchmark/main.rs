@@ -1,0 +1,71 @@
+//! How long the library takes beside the Rust, on the same inputs in one run: tables of ratios, as
+//! docs/BENCHMARK.md has them. `tests/benchmark/run` builds and runs it. No time is a test.
+
+mod charts;
+mod elementary;
+#[allow(dead_code)]
+#[path = "../vectors/inputs.rs"]
+mod inputs;
+#[allow(dead_code)]
+#[path = "../against_rust/overbrindle.rs"]
+mod overbrindle;
+mod searches;
+#[allow(dead_code)]
+#[path = "../vectors/series.rs"]
+mod series;
+mod timing;
+
+use inputs::Random;
+use std::time::Duration;
+use timing::{Best, Row};
+
+const N: usize = 4096;
+const SMALL: usize = 512;
+
+fn head(unit: &str) {
+    println!("| | ours, {unit} | the Rust's, {unit} | ratio |\n|---|---|---|---|");
+}
+
+fn main() {
+    let words: Vec<String> = std::env::args().skip(1).collect();
+    let rounds = words
+        .first()
+        .map_or(15, |word| word.parse().expect("a number of rounds"));
+    let best = Best {
+        rounds,
+        enough: Duration::from_secs(2),
+    };
+    let mut random = Random::new();
+    println!("Searches by BIC, {N} readings a channel, minimum length 2:\n");
+    head("µs");
+    let mut rows: Vec<(searches::Sort, Row)> = Vec::new();
+    for sort in searches::sorts() {
+        let (mut row, found) = searches::row(best, &mut random, N, sort);
+        row.name = format!("{} ({found} found)", row.name);
+        row.print();
+        rows.push((sort, row));
+    }
+    searches::wrapper(best, &mut random, N).print();
+    println!("\nCharts, and the noise variance of BIC, {N} readings:\n");
+    head("µs");
+    charts::rows(best, &mut random, N)
+        .iter()
+        .for_each(Row::print);
+    println!("\nElementary functions, a thousand calls:\n");
+    head("µs");
+    elementary::rows(best, &mut random)
+        .iter()
+        .for_each(Row::print);
+    println!("\nTimes at {N} readings over those at {SMALL}, which are 8 times fewer:\n");
+    println!("| | ours | the Rust's |\n|---|---|---|");
+    for (sort, row) in rows.iter().filter(|(sort, _)| sort.changes <= 16) {
+        // As many readings to a piece.
+        let changes = sort.changes * SMALL / N;
+        let small = searches::Sort { changes, ..*sort };
+        let small = searches::row(best, &mut random, SMALL, small).0;
+        let growth = (row.ours / small.ours, row.theirs / small.theirs);
+        println!("| {} | {:.1} | {:.1} |", sort.name(), growth.0, growth.1);
+    }
+    let worst = rows.iter().map(|(_, row)| row.ratio()).fold(0.0, f64::max);
+    println!("\nThe largest ratio of a search is {worst:.2}.");
+}

@@ -1,0 +1,193 @@
+//! What the Rust's charts make of a series, and the settings, series and levels that they are asked.
+
+use crate::inputs::Random;
+use crate::series::{self, Settings, SettingsKind, SERIES_KINDS};
+use cusum::Cusum;
+use ewma::Ewma;
+
+/// The number of the refusal of a chart's settings, and that of a level that is not finite.
+pub const CHART: u8 = 11;
+const NON_FINITE: u8 = 8;
+pub const MOST_READINGS: usize = 4096;
+/// Nearly all series are short, so that there is room for many.
+const SHORT: [u64; 3] = [16, 80, 300];
+
+pub struct Record {
+    pub values: Vec<f64>,
+    pub signal: bool,
+    pub index: usize,
+}
+
+/// What a chart makes of a series.
+pub struct Answer {
+    pub records: Vec<Record>,
+    pub points: Vec<usize>,
+}
+
+/// What makes of a series what a chart does, if there is a chart with these settings.
+pub type Chart = fn(&Settings, &[f64]) -> Option<Answer>;
+
+/// The settings and the readings of a case.
+pub type Case = (Settings, Vec<f64>);
+
+pub fn cusum_chart(settings: &Settings) -> Option<Cusum> {
+    let [target, sigma, k, h] = settings.values;
+    match settings.by_new {
+        true => Cusum::new(target, sigma),
+        false => Cusum::with_params(target, sigma, k, h),
+    }
+}
+
+pub fn ewma_chart(settings: &Settings) -> Option<Ewma> {
+    let [target, sigma, lambda, l_factor] = settings.values;
+    match settings.by_new {
+        true => Ewma::new(target, sigma),
+        false => Ewma::with_params(target, sigma, lambda, l_factor),
+    }
+}
+
+pub fn cusum_answer(settings: &Settings, readings: &[f64]) -> Option<Answer> {
+    let chart = cusum_chart(settings)?;
+    let record = |r: cusum::CusumResult| Record {
+        values: vec![r.s_upper, r.s_lower],
+        signal: r.signal,
+        index: r.index,
+    };
+    Some(Answer {
+        records: chart.analyze(readings).into_iter().map(record).collect(),
+        points: chart.signal_points(readings),
+    })
+}
+
+pub fn ewma_answer(settings: &Settings, readings: &[f64]) -> Option<Answer> {
+    let chart = ewma_chart(settings)?;
+    let record = |r: ewma::EwmaResult| Record {
+        values: vec![r.ewma, r.ucl, r.lcl],
+        signal: r.signal,
+        index: r.index,
+    };
+    Some(Answer {
+        records: chart.analyze(readings).into_iter().map(record).collect(),
+        points: chart.signal_points(readings),
+    })
+}
+
+/// A series of each kind by settings of each, of several lengths; the first are 0, 1 and 2.
+pub fn short_cases(random: &mut Random, kinds: &[SettingsKind]) -> Vec<Case> {
+    let mut cases: Vec<Case> = Vec::new();
+    for series in SERIES_KINDS {
+        for (at, settings) in kinds.iter().enumerate() {
+            let drawn = SHORT.map(|most| random.below(most + 1) as usize);
+            for count in [&[at % 3], &drawn[..]].concat() {
+                let settings = settings(random);
+                let [target, sigma, ..] = settings.values;
+                let readings = series(random, target, sigma, count);
+                cases.push((settings, readings));
+            }
+        }
+    }
+    cases
+}
+
+/// As many readings as a chart takes, by the first settings: stepped, drifting, and with infinities.
+fn long_cases(random: &mut Random, kinds: &[SettingsKind]) -> Vec<Case> {
+    let mut cases: Vec<Case> = Vec::new();
+    for (settings, at) in kinds.iter().zip([2, 3, 6]) {
+        let settings = settings(random);
+        let [target, sigma, ..] = settings.values;
+        let readings = SERIES_KINDS[at](random, target, sigma, MOST_READINGS);
+        cases.push((settings, readings));
+    }
+    cases
+}
+
+/// Settings that are out of range, or at its end, with few readings.
+pub fn refused_cases(random: &mut Random, usual: [f64; 4]) -> Vec<Case> {
+    let refused = |settings| {
+        let count = random.below(4) as usize;
+        let readings = SERIES_KINDS[1](random, 0.0, 1.0, count);
+        (settings, readings)
+    };
+    series::refused(usual).into_iter().map(refused).collect()
+}
+
+fn all_cases(random: &mut Random, usual: [f64; 4], kinds: &[SettingsKind]) -> Vec<Case> {
+    let mut cases = short_cases(random, kinds);
+    cases.extend(long_cases(random, kinds));
+    cases.extend(refused_cases(random, usual));
+    cases
+}
+
+/// The run length of the level, from 1, or 0 where it is not heard.
+fn run_length(chart: &Cusum, h: f64, level: f64, upper: bool) -> usize {
+    let records = chart.analyze(&[level; MOST_READINGS]);
+    let sum = |r: &cusum::CusumResult| if upper { r.s_upper } else { r.s_lower };
+    records
+        .iter()
+        .position(|r| sum(r) > h)
+        .map_or(0, |at| at + 1)
+}
+
+/// The number of the refusal of a run length, or 0, and the run length.
+pub fn run_length_answer(settings: &Settings, level: f64, upper: bool) -> (u8, usize) {
+    match cusum_chart(settings) {
+        None => (CHART, 0),
+        Some(_) if !level.is_finite() => (NON_FINITE, 0),
+        Some(chart) => (0, run_length(&chart, settings.values[3], level, upper)),
+    }
+}
+
+/// Levels for a chart, each with whether the upper sum is asked: those that are heard after about so
+/// many readings, those next to the allowance, and the centre and the ends of the range.
+fn levels(random: &mut Random, [target, sigma, k, h]: [f64; 4]) -> Vec<(f64, bool)> {
+    let mut levels = vec![(target + sigma * k, true), (target - 3.0 * sigma, false)];
+    for most in [4, 60, 900, 5000] {
+        let away = |readings| sigma * (k + h / (1 + readings) as f64);
+        levels.push((target + away(random.below(most)), true));
+        levels.push((target - away(random.below(most)), false));
+    }
+    for level in [target, f64::MAX, 5e-324, f64::NAN, f64::NEG_INFINITY] {
+        levels.extend([(level, true), (level, false)]);
+    }
+    levels
+}
+
+/// Run lengths to ask: the marked example of document 01, those about the last reading, and levels for
+/// three settings of each kind and for settings that are refused.
+pub fn run_lengths(random: &mut Random) -> Vec<(Settings, f64, bool)> {
+    let last = [4094.0, 4095.0, 4095.5, 4096.0].map(|h| [0.0, 1.0, 0.0, h]);
+    let mut asked = vec![(Settings::with([0.0, 1.0, 0.5, 5.0]), 3.0, true)];
+    asked.extend(last.map(|values| (Settings::with(values), 1.0, true)));
+    asked.extend(last.map(|values| (Settings::with(values), -1.0, false)));
+    let mut charts = vec![[0.0, -1.0, 0.5, 5.0]];
+    for kind in series::CUSUM_SETTINGS {
+        charts.extend([0; 3].map(|_| kind(random).values));
+    }
+    for values in charts {
+        let ask = |(level, upper)| (Settings::with(values), level, upper);
+        asked.extend(levels(random, values).into_iter().map(ask));
+    }
+    asked
+}
+
+/// CUSUM's marked examples of document 01, and then all others.
+pub fn cusum_cases(random: &mut Random) -> Vec<Case> {
+    let marked = [vec![3.0; 3], vec![8.0, f64::NAN]];
+    let usual = [0.0, 1.0, 0.5, 5.0];
+    let by_new = |readings| {
+        let (by_new, values) = (true, usual);
+        (Settings { by_new, values }, readings)
+    };
+    let mut cases: Vec<Case> = marked.into_iter().map(by_new).collect();
+    cases.extend(all_cases(random, usual, &series::CUSUM_SETTINGS));
+    cases
+}
+
+/// EWMA's marked example of document 01, and then all others.
+pub fn ewma_cases(random: &mut Random) -> Vec<Case> {
+    let marked = [3.0, 3.5].map(|reading| (Settings::with([0.0, 1.0, 1.0, 3.0]), vec![reading]));
+    let mut cases: Vec<Case> = marked.into_iter().collect();
+    let usual = [0.0, 1.0, 0.2, 3.0];
+    cases.extend(all_cases(random, usual, &series::EWMA_SETTINGS));
+    cases
+}
