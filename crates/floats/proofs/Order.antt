@@ -6,3 +6,4 @@ pub mod Quotients
 pub mod Zero
 pub mod Magnitude
 pub mod Extremes
+pub mod Patterns

@@ -1,16 +1,16 @@
--- Laws of counting the values that pass a test: what a store, an exchange and a list of two pieces do to a count, and what a count says of single places. Assumes nothing.
+-- Laws of counting the values that pass a test, and what a count says of single places. Assumes nothing.
 use Prim.Native.Nat.{ℕ, zero, suc, _+_, _≤_, _<_, zero-le, suc-le-suc}
 use mathlib.Core.Path.{_≡_, refl, sym, ap, _∙_}
 use mathlib.Core.Bool.{Bool, true, false, not, cond}
 use mathlib.Core.List.{List, [], _∷_, _++_}
 use native.Mathlib.Nat.{not-suc-le-zero, le-of-suc-le-suc}
 use native.Mathlib.Omega.{arith}
-use borrow.Author.Tests.{not-false, eqb-true, eqb-false}
-use lib.Dec.{eqb}
-use lib.ListN.{length, getD, set, length-set}
-use lib.Seq.{getD-set-same, getD-set-other}
+use borrow.Author.Tests.{not-false}
+use lib.ListN.{length, getD, take}
+use lib.Seq.{take-suc, take-length}
+use native.Mathlib.Numerals.{add-one}
 use lib.Ieee.{Float, nan}
-use Rattle.noise.specs.Heaps.{count, Same, Each, swapped}
+use Rattle.noise.specs.Ranks.{count, Each}
 
 abbrev pub one : Bool → ℕ
 one b = cond b 1 0
@@ -20,11 +20,20 @@ unfolding count
 count-append p [] ys = omega arith
 count-append p (x ∷ xs) ys = rw (count-append p xs ys) (omega arith)
 
-count-set : (p : Float → Bool) (xs : List Float) (i : ℕ) (v : Float) → i < length xs → count p (set xs i v) + one (p (getD xs i nan)) ≡ count p xs + one (p v)
+-- one value more
+pub count-more : (p : Float → Bool) (xs : List Float) (i : ℕ) → i < length xs → count p (take (suc i) xs) ≡ count p (take i xs) + one (p (getD xs i nan))
 unfolding count
-count-set p [] i v h = absurd (not-suc-le-zero h)
-count-set p (x ∷ xs) zero v h = omega arith
-count-set p (x ∷ xs) (suc i) v h = omega (arith, count-set p xs i v (le-of-suc-le-suc h))
+count-more p xs i h = ap (count p) (take-suc xs i nan h) ∙ count-append p (take i xs) (getD xs i nan ∷ []) ∙ ap (λ (n : ℕ). count p (take i xs) + n) (let z : one (p (getD xs i nan)) + 0 ≡ one (p (getD xs i nan)) = omega arith in z)
+
+-- a loop over the values: one that passes, one that does not, and the end
+pub counted-in : (p : Float → Bool) (xs : List Float) (i n : ℕ) → n ≡ count p (take i xs) → i < length xs → p (getD xs i nan) ≡ true → n + 1 ≡ count p (take (i + 1) xs)
+counted-in p xs i n e h t = rw add-one (rw add-one (omega (arith, e, count-more p xs i h ∙ ap (λ (b : Bool). count p (take i xs) + one b) t)))
+
+pub counted-out : (p : Float → Bool) (xs : List Float) (i n : ℕ) → n ≡ count p (take i xs) → i < length xs → p (getD xs i nan) ≡ false → n ≡ count p (take (i + 1) xs)
+counted-out p xs i n e h t = rw add-one (omega (arith, e, count-more p xs i h ∙ ap (λ (b : Bool). count p (take i xs) + one b) t))
+
+pub counted-all : (p : Float → Bool) (xs : List Float) (i n : ℕ) → n ≡ count p (take i xs) → i ≡ length xs → n ≡ count p xs
+counted-all p xs i n e h = e ∙ ap (count p) (ap (λ (k : ℕ). take k xs) h ∙ take-length xs)
 
 -- values from place m on that fail leave at most m
 pub count-most : (p : Float → Bool) (xs : List Float) (m : ℕ) → ((i : ℕ) → m ≤ i → i < length xs → p (getD xs i nan) ≡ false) → count p xs ≤ m
@@ -71,42 +80,16 @@ count-none p (x ∷ xs) (suc i) e h = count-none p xs i (omega arith) (le-of-suc
 each-not : {p : Float → Bool} {xs : List Float} → Each p xs → count (λ (v : Float). not (p v)) xs ≡ 0
 each-not {p} {xs} h = omega (arith, count-most (λ (v : Float). not (p v)) xs 0 (λ i l k. ap not (h .each i k)))
 
--- ---- lists of the same values
-pub same-each : {p : Float → Bool} {xs ys : List Float} → Same xs ys → Each p xs → Each p ys
-same-each {p} {xs} {ys} s h =
-    record { each = λ i l. not-false (p (getD ys i nan)) (count-none (λ (v : Float). not (p v)) ys i (sym (s .counts (λ (v : Float). not (p v))) ∙ each-not h) l) }
-
-pub same-refl : (xs : List Float) → Same xs xs
-same-refl xs = record { counts = λ p. refl }
-
-pub same-sym : {xs ys : List Float} → Same xs ys → Same ys xs
-same-sym s = record { counts = λ p. sym (s .counts p) }
-
-pub same-trans : {xs ys zs : List Float} → Same xs ys → Same ys zs → Same xs zs
-same-trans s t = record { counts = λ p. s .counts p ∙ t .counts p }
-
-pub same-append : {xs ys : List Float} (zs : List Float) → Same xs ys → Same (xs ++ zs) (ys ++ zs)
-same-append {xs} {ys} zs s = record { counts = λ p. count-append p xs zs ∙ ap (λ (n : ℕ). n + count p zs) (s .counts p) ∙ sym (count-append p ys zs) }
-
--- what stands at j once i took its value
-exchanged : (xs : List Float) (i j : ℕ) → i < length xs → getD (set xs i (getD xs j nan)) j nan ≡ getD xs j nan
-exchanged xs i j h = side (eqb j i) refl
+-- where the one test passes, at the list's places, the other does
+pub count-implied : (p q : Float → Bool) (xs : List Float) → ((i : ℕ) → i < length xs → p (getD xs i nan) ≡ true → q (getD xs i nan) ≡ true) → count p xs ≤ count q xs
+unfolding count
+count-implied p q [] h = zero-le
+count-implied p q (x ∷ xs) h = side (p x) refl (count-implied p q xs (λ i l. h (suc i) (suc-le-suc l)))
   where
-    side : (b : Bool) → eqb j i ≡ b → getD (set xs i (getD xs j nan)) j nan ≡ getD xs j nan
-    side true e =
-        let k : j ≡ i = eqb-true j i e in
-        ap (λ (n : ℕ). getD (set xs i (getD xs j nan)) n nan) k ∙ getD-set-same xs i (getD xs j nan) nan h
-    side false e = getD-set-other xs i j (getD xs j nan) nan (eqb-false j i e)
+    side : (b : Bool) → p x ≡ b → count p xs ≤ count q xs → one (p x) + count p xs ≤ one (q x) + count q xs
+    side true e k = rw (e, h 0 (suc-le-suc zero-le) e) (omega arith)
+    side false e k = rw e (omega arith)
 
-pub same-swapped : (xs : List Float) (i j : ℕ) → i < length xs → j < length xs → Same xs (swapped xs i j)
-unfolding swapped
-same-swapped xs i j h k = record { counts = λ p. side p (exchanged xs i j h) (count-set p xs i (getD xs j nan) h) (count-set p (set xs i (getD xs j nan)) j (getD xs i nan) (simp length-set k)) }
-  where
-    sums : (a b c x y : ℕ) → b + x ≡ a + y → c + y ≡ b + x → a ≡ c
-    sums a b c x y e f = omega arith
-
-    side : (p : Float → Bool) → getD (set xs i (getD xs j nan)) j nan ≡ getD xs j nan
-        → count p (set xs i (getD xs j nan)) + one (p (getD xs i nan)) ≡ count p xs + one (p (getD xs j nan))
-        → count p (set (set xs i (getD xs j nan)) j (getD xs i nan)) + one (p (getD (set xs i (getD xs j nan)) j nan)) ≡ count p (set xs i (getD xs j nan)) + one (p (getD xs i nan))
-        → count p xs ≡ count p (set (set xs i (getD xs j nan)) j (getD xs i nan))
-    side p e f g = sums _ _ _ _ _ f (rw e at g)
+-- of two lists in which every test counts the same, every value of the one passes where every one of the other does
+pub counts-each : {p : Float → Bool} {xs ys : List Float} → ((q : Float → Bool) → count q xs ≡ count q ys) → Each p xs → Each p ys
+counts-each {p} {xs} {ys} s h = record { each = λ i l. not-false (p (getD ys i nan)) (count-none (λ (v : Float). not (p v)) ys i (sym (s (λ (v : Float). not (p v))) ∙ each-not h) l) }

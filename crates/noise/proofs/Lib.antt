@@ -1,9 +1,8 @@
 pub mod OrderLaws
 pub mod CountLaws
-pub mod HeapLaws
-pub mod DrainLaws
 pub mod MagnitudeLaws
 pub mod SortLaws
+pub mod RankLaws
 pub mod MedianLaws
 pub mod NoiseLaws
 pub mod Outcomes

@@ -12,7 +12,7 @@ use lib.Ieee.Fits.{down-pos, sub-fits}
 use lib.Ieee.Nearest.{div-same}
 use Rattle.floats.specs.Finite.{abs}
 use Rattle.floats.specs.Ahead.{ahead}
-use Rattle.noise.specs.Heaps.{magnitude}
+use Rattle.noise.specs.Ranks.{magnitude}
 use Rattle.noise.proofs.OrderLaws.{holds, ahead-of-nan, ahead-of-number}
 
 -- numbers that are as many of the smallest value have one pattern

@@ -5,7 +5,7 @@ use mathlib.Core.List.{List, [], _∷_, _++_}
 use native.Mathlib.Numerals.{add-one}
 use native.Mathlib.Omega.{arith}
 use borrow.Author.Tests.{eq-eqb, ne-eqb}
-use lib.ListN.{length, getD, set, take, replicate, replicate-append-replicate}
+use lib.ListN.{length, getD, set, take}
 use lib.Seq.{take-length, take-suc-set}
 use lib.Ieee.{Float, nan}
 use Rattle.floats.specs.Numbers.{_+ᶠ_, _*ᶠ_, ratio}
@@ -13,9 +13,8 @@ use Rattle.readings.specs.Parts.{tab}
 use Rattle.readings.proofs.PartLaws.{tab-length, tab-at, tab-more}
 use Rattle.noise.specs.declared.Middles.{Middles}
 use Rattle.noise.specs.Median.{differenceAt, differences, median}
-use Rattle.noise.specs.Heaps.{Each, Ordered, magnitude, middlesOf}
+use Rattle.noise.specs.Ranks.{Each, magnitude, rankedOf, middlesOf}
 use Rattle.noise.proofs.MagnitudeLaws.{difference-magnitude}
-use Rattle.noise.proofs.SortLaws.{ordered-values}
 
 -- ---- one more place of a front that is written
 front-more : {A : Type 0} (xs : List A) (i : ℕ) (v : A) (ys : List A) → i < length xs → take i xs ≡ ys → take (i + 1) (set xs i v) ≡ ys ++ (v ∷ [])
@@ -45,12 +44,12 @@ pub differences-ready : (channel ys : List Float) (n : ℕ) → ys ≡ differenc
 differences-ready channel ys n e l h = (omega (arith, ap length e ∙ differences-length channel), subst (Each magnitude) (sym e) (differences-magnitudes channel))
 
 -- ---- the middle values
-pub middles-found : {xs zs : List Float} → Ordered xs zs → Each magnitude xs → 0 < length xs
-    → _≡_ {A = Middles} (record { low = getD zs ((length zs - 1) / 2) nan; high = getD zs (length zs / 2) nan }) (middlesOf xs)
+pub middles-found : (xs : List Float) {low high : Float} → low ≡ rankedOf xs ((length xs - 1) / 2) → high ≡ rankedOf xs (length xs / 2) → _≡_ {A = Middles} (record { low = low; high = high }) (middlesOf xs)
 unfolding middlesOf
-middles-found {xs} {zs} o m h =
-    let e : length zs ≡ length xs = o .long in
-    rw (e, ordered-values o m ((length xs - 1) / 2) (omega arith), ordered-values o m (length xs / 2) (omega arith))
+middles-found xs l h = rw (l, h)
+
+pub odd-middle : (n : ℕ) → n % 2 ≡ 1 → (n - 1) / 2 ≡ n / 2
+odd-middle n h = omega (arith, h)
 
 pub odd-median : (xs : List Float) (two : Middles) (n : ℕ) → two ≡ middlesOf xs → n ≡ length xs → n % 2 ≡ 1 → two .high ≡ median xs
 unfolding middlesOf median

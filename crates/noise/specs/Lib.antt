@@ -1,4 +1,4 @@
 pub mod Order
 pub mod Median
 pub mod Noise
-pub mod Heaps
+pub mod Ranks

@@ -5,9 +5,9 @@
 // the answer is NaN and the area is unchanged. `specs/Noise` has the definitions.
 //
 // How the middle differences are found is the crate's own affair: `middles` alone stands between the
-// median and the sort, and no public contract says that anything was sorted.
-mod heap;
+// median and the search for a rank, and no public contract says how it is made.
 mod middle;
+mod rank;
 mod variance;
 
 pub use variance::noise_sum;

@@ -3,10 +3,10 @@ ghost use mathlib.Core.Path.{_≡_};
 ghost use Prim.Native.Nat.{_+_, _<_};
 ghost use lib.ListN.{length, replicate};
 ghost use Rattle.floats.specs.Numbers.{+0};
-ghost use Rattle.noise.specs.Heaps.{Each, magnitude, middlesOf};
+ghost use Rattle.noise.specs.Ranks.{Each, magnitude, middlesOf};
 ghost use Rattle.noise.specs.Median.{differences, median};
 use crate::Middles;
-use crate::heap::sort;
+use crate::rank::ranked;
 use areas::clear_floats;
 
 // Cost: one turn for each difference.
@@ -21,18 +21,17 @@ fn difference(channel: &[f64], run: &mut [f64])
     }
 }
 
-// The two middle values of a run, whose values it may put in any order. Cost: that of the sort.
-fn middles(run: &mut [f64]) -> Middles
+// The two middle values of a run. Cost: those of finding two values by their ranks.
+fn middles(run: &[f64]) -> Middles
     requires { ⌜ (0 < length (now run)) × Each magnitude (now run) ⌝ }
     ensures { λ r. ⌜ r ≡ middlesOf (now (run .entry)) ⌝ }
 {
-    sort(run);
-    let low = (run.len() - 1) / 2;
-    let high = run.len() / 2;
-    Middles {
-        low: run[low],
-        high: run[high],
+    let low = ranked(run, (run.len() - 1) / 2);
+    if run.len() % 2 == 1 {
+        return Middles { low, high: low };
     }
+    let high = ranked(run, run.len() / 2);
+    Middles { low, high }
 }
 
 // The median of the differences, worked out in a run that is +0 afterwards.

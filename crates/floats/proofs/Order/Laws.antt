@@ -147,7 +147,7 @@ lt-then-le (fin s m e) (fin t n d) (fin u o c) h k =
     (less-leq (gain s (m * up e)) (loss s (m * up e)) (down e) (gain t (n * up d)) (loss t (n * up d)) (down d) (gain u (o * up c)) (loss u (o * up c)) (down c) (down-pos d) (down-pos c)
     (lt→less s m e t n d h) (le→leq t n d u o c k))
 
-lt-irreflexive : (x : Float) → T (lt x x) → ⊥
+pub lt-irreflexive : (x : Float) → T (lt x x) → ⊥
 unfolding lt
 lt-irreflexive nan h = h
 lt-irreflexive (inf true) h = h
