@@ -27,6 +27,7 @@ strictTests q =
 unfoldable pub strictCuts : Request → Option (List ℕ)
 strictCuts q = cutsFound (q .settings .cost) (q .settings .penalty) (q .settings .m) (q .channels .run) (firstLength (q .channels .lengths)) (length (q .channels .lengths)) 40
 
+-- what is said of them: the cuts themselves, or refusal 9
 unfoldable pub cutsSaid : Option (List ℕ) → Said
 cutsSaid (some cuts) = answered cuts
 cutsSaid none = refused (stated Refusal.Pool)
