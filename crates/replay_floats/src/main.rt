@@ -1,5 +1,6 @@
-// Replays the stored cases of the functions of `elementary` and `floats`: it shows the first cases
-// whose result is not the stored one, to the bit, and says for each function how many there are.
+// Replays the stored cases of the functions of `elementary` and `floats`, those of the logarithm also
+// by `logarithms`: it shows the first cases whose result is not the stored one, to the bit, and says
+// for each function how many there are.
 // Values come and go as bit patterns, by `floats::from_bits` and `floats::to_bits`.
 //
 // The cases come from a program that shares no code with the two. Standard input was made by
@@ -77,7 +78,7 @@ fn print_name(function: Function) {
     match function {
         Function::Sqrt => print(b"sqrt"),
         Function::Powi => print(b"powi"),
-        Function::Ln => print(b"ln"),
+        Function::Ln => print(b"ln or ln_each"),
         Function::Max => print(b"max"),
         Function::Min => print(b"min"),
         Function::Abs => print(b"abs"),
@@ -135,13 +136,32 @@ fn one_if(holds: bool) -> f64 {
     if holds { 1.0 } else { 0.0 }
 }
 
+// The logarithm of x from among 66 other values, which make two blocks with it.
+fn ln_among_others(x: f64, place: usize) -> f64
+    requires { ⌜ place < 67 ⌝ }
+{
+    let mut values = [2.0; 67];
+    values[place] = x;
+    logarithms::ln_each(&mut values);
+    values[place]
+}
+
+// The logarithm's bit pattern in both ways: the first one that is not as expected.
+fn ln_both_ways(x: f64, case: Case) -> u64 {
+    let alone = floats::to_bits(elementary::ln(x));
+    if alone != case.expected {
+        return alone;
+    }
+    floats::to_bits(ln_among_others(x, (case.x % 67) as usize))
+}
+
 // What the function makes of the case.
 fn result(function: Function, case: Case) -> u64 {
     let x = floats::from_bits(case.x);
     match function {
         Function::Sqrt => floats::to_bits(elementary::sqrt(x)),
         Function::Powi => floats::to_bits(elementary::powi(x, case.n)),
-        Function::Ln => floats::to_bits(elementary::ln(x)),
+        Function::Ln => ln_both_ways(x, case),
         Function::Max => floats::to_bits(floats::max(x, floats::from_bits(case.n))),
         Function::Min => floats::to_bits(floats::min(x, floats::from_bits(case.n))),
         Function::Abs => floats::to_bits(floats::abs(x)),
@@ -249,6 +269,6 @@ fn main() {
     let plain = progress.plain;
     report(b"sqrt", sqrt);
     report(b"powi", powi);
-    report(b"ln", ln);
+    report(b"ln and ln_each", ln);
     report(b"max, min, abs and finite", plain);
 }

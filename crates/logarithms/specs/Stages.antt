@@ -1,0 +1,58 @@
+-- What the private functions promise one another. No public contract cites this file. Definitions only.
+use Prim.Native.Nat.{ℕ, _+_, _/_, _%_, _^_, _≤_, _<_}
+use mathlib.Core.Path.{_≡_}
+use mathlib.Core.Bool.{Bool, true, _&&_}
+use mathlib.Core.List.{List}
+use lib.IntN.{pos, _-ℤ_}
+use lib.ListN.{length, getD}
+use lib.Ieee.{Float, nan, binary64, ofBits, toBits, ofInt}
+use Rattle.floats.specs.Numbers.{_-ᶠ_, _+ᶠ_, _*ᶠ_, _/ᶠ_, _<ᶠ_, whole}
+use Rattle.elementary.specs.Logarithm.{series}
+
+-- a finite value above the smallest normal one
+unfoldable pub plain : Float → Bool
+plain v = (ofBits binary64 0x0010_0000_0000_0000 <ᶠ v) && (v <ᶠ ofBits binary64 0x7ff0_0000_0000_0000)
+
+-- the bit pattern and what carries into the exponent where the significand is above 1.4142135623730951
+abbrev pub carriedOf : Float → ℕ
+carriedOf v = toBits binary64 v + 0x0009_5f61_9980_c432
+
+-- the exponent, one more where it carried
+unfoldable pub exponentOf : Float → Float
+exponentOf v = ofInt binary64 (pos (carriedOf v / 2 ^ 52 + 1073) -ℤ pos 2096)
+
+-- (M - 1) / (M + 1)
+abbrev pub quotientBy : Float → Float
+quotientBy M = (M -ᶠ whole 1) /ᶠ (M +ᶠ whole 1)
+
+-- the same of the significand, halved where it carried
+unfoldable pub quotientOf : Float → Float
+quotientOf v = quotientBy (ofBits binary64 (carriedOf v % 2 ^ 52 + 0x3fe6_a09e_667f_3bce))
+
+-- P is where the sum for s stands with k terms still to come
+unfoldable pub Begun : ℕ → Float → Float → Type 0
+Begun k s P = series k (s *ᶠ s) P ≡ series 10 (s *ᶠ s) (whole 1 /ᶠ whole 21)
+
+-- s is the quotient of v
+abbrev pub Split : Float → Float → Type 0
+Split v s = s ≡ quotientOf v
+
+-- a relation at each of the first count places of two lists
+pub record Each (R : Float → Float → Type 0) (count : ℕ) (xs ys : List Float) : Type 0 where
+  pub each : (i : ℕ) → i < count → R (getD xs i nan) (getD ys i nan)
+
+-- the first count values are plain
+pub record Plain (count : ℕ) (xs : List Float) : Type 0 where
+  pub each : (i : ℕ) → i < count → plain (getD xs i nan) ≡ true
+
+-- a list that is the same from a place on
+pub record Kept (from : ℕ) (before after : List Float) : Type 0 where
+  pub same : (i : ℕ) → from ≤ i → getD after i nan ≡ getD before i nan
+
+-- what the stages leave for the last one
+pub record Ready (values ratios sums : List Float) : Type 0 where
+  pub all-plain : Plain (length values) values
+  pub split : Each Split (length values) values ratios
+  pub summed : Each (Begun 0) (length values) ratios sums
+  pub ratios-reach : length values ≤ length ratios
+  pub sums-reach : length values ≤ length sums
