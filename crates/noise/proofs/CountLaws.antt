@@ -6,7 +6,7 @@ use mathlib.Core.List.{List, [], _∷_, _++_}
 use native.Mathlib.Nat.{not-suc-le-zero, le-of-suc-le-suc}
 use native.Mathlib.Omega.{arith}
 use borrow.Author.Tests.{not-false}
-use lib.ListN.{length, getD, take}
+use lib.ListN.{length, getD, take, drop, take-append-drop}
 use lib.Seq.{take-suc, take-length}
 use native.Mathlib.Numerals.{add-one}
 use lib.Ieee.{Float, nan}
@@ -35,6 +35,11 @@ counted-out p xs i n e h t = rw add-one (omega (arith, e, count-more p xs i h �
 pub counted-all : (p : Float → Bool) (xs : List Float) (i n : ℕ) → n ≡ count p (take i xs) → i ≡ length xs → n ≡ count p xs
 counted-all p xs i n e h = e ∙ ap (count p) (ap (λ (k : ℕ). take k xs) h ∙ take-length xs)
 
+-- a value that passes was not among those before it
+pub count-room : (p : Float → Bool) (xs : List Float) (i n : ℕ) → n ≡ count p (take i xs) → i < length xs → p (getD xs i nan) ≡ true → n < count p xs
+count-room p xs i n e h t =
+    omega (arith, counted-in p xs i n e h t, sym (count-append p (take (i + 1) xs) (drop (i + 1) xs)) ∙ ap (count p) (take-append-drop (i + 1) xs))
+
 -- values from place m on that fail leave at most m
 pub count-most : (p : Float → Bool) (xs : List Float) (m : ℕ) → ((i : ℕ) → m ≤ i → i < length xs → p (getD xs i nan) ≡ false) → count p xs ≤ m
 unfolding count
@@ -45,6 +50,12 @@ count-most p (x ∷ xs) (suc m) h = side (p x) (count-most p xs m (λ i l k. h (
     side : (b : Bool) → count p xs ≤ m → one b + count p xs ≤ suc m
     side true k = omega arith
     side false k = omega arith
+
+pub count-length : (p : Float → Bool) (xs : List Float) → count p xs ≤ length xs
+count-length p xs = count-most p xs (length xs) (λ i l h. absurd (beyond i l h))
+  where
+    beyond : (i : ℕ) → length xs ≤ i → i < length xs → ⊥
+    beyond i l h = omega (arith, l, h)
 
 -- m first values that pass make at least m
 pub count-least : (p : Float → Bool) (xs : List Float) (m : ℕ) → m ≤ length xs → ((i : ℕ) → i < m → p (getD xs i nan) ≡ true) → m ≤ count p xs

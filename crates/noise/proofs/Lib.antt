@@ -7,3 +7,5 @@ pub mod MedianLaws
 pub mod NoiseLaws
 pub mod Outcomes
 pub mod Examples
+pub mod KeptLaws
+pub mod BracketLaws

@@ -17,7 +17,7 @@ use Rattle.noise.specs.Ranks.{Each, magnitude, rankedOf, middlesOf}
 use Rattle.noise.proofs.MagnitudeLaws.{difference-magnitude}
 
 -- ---- one more place of a front that is written
-front-more : {A : Type 0} (xs : List A) (i : ℕ) (v : A) (ys : List A) → i < length xs → take i xs ≡ ys → take (i + 1) (set xs i v) ≡ ys ++ (v ∷ [])
+pub front-more : {A : Type 0} (xs : List A) (i : ℕ) (v : A) (ys : List A) → i < length xs → take i xs ≡ ys → take (i + 1) (set xs i v) ≡ ys ++ (v ∷ [])
 front-more xs i v ys h e = rw add-one (take-suc-set xs i v h ∙ ap (λ (l : List _). l ++ (v ∷ [])) e)
 
 pub differences-more : (channel xs : List Float) (i : ℕ) (v : Float) → i < length xs → v ≡ differenceAt channel i → take i xs ≡ tab (differenceAt channel) i
@@ -47,9 +47,6 @@ differences-ready channel ys n e l h = (omega (arith, ap length e ∙ difference
 pub middles-found : (xs : List Float) {low high : Float} → low ≡ rankedOf xs ((length xs - 1) / 2) → high ≡ rankedOf xs (length xs / 2) → _≡_ {A = Middles} (record { low = low; high = high }) (middlesOf xs)
 unfolding middlesOf
 middles-found xs l h = rw (l, h)
-
-pub odd-middle : (n : ℕ) → n % 2 ≡ 1 → (n - 1) / 2 ≡ n / 2
-odd-middle n h = omega (arith, h)
 
 pub odd-median : (xs : List Float) (two : Middles) (n : ℕ) → two ≡ middlesOf xs → n ≡ length xs → n % 2 ≡ 1 → two .high ≡ median xs
 unfolding middlesOf median

@@ -1,6 +1,6 @@
 -- The value at a place of the list in order, by counts and by patterns. Assumes nothing.
-use Prim.Native.Nat.{ℕ, zero, suc, _+_, _*_, _/_, _^_, _≤_, _<_}
-use mathlib.Core.Path.{_≡_, refl, sym, ap, subst, _∙_}
+use Prim.Native.Nat.{ℕ, zero, suc, _+_, _≤_, _<_}
+use mathlib.Core.Path.{_≡_, refl, sym, ap, _∙_}
 use mathlib.Core.Bool.{Bool, true, false, not, _&&_, false≢true, true≢false}
 use mathlib.Core.List.{List}
 use native.Mathlib.Omega.{arith}
@@ -12,8 +12,7 @@ use lib.Ieee.Bits.{is-true}
 use Rattle.floats.specs.Ahead.{ahead}
 use lib.Ieee.Compare.{differs-from-itself}
 use lib.Ieee.Fits.{inf-fits}
-use lib.Pow.{pow-pos}
-use native.Mathlib.Nat.{pow-suc, le-refl, le-trans, lt-of-lt-of-le}
+use native.Mathlib.Nat.{le-refl, le-trans, lt-of-lt-of-le}
 use Rattle.floats.proofs.Order.Laws.{number}
 use Rattle.floats.proofs.Order.Patterns.{unsigned, pattern-order, pattern-most, pattern-of}
 use Rattle.noise.specs.Order.{sorted}
@@ -60,12 +59,23 @@ module _ (xs : List Float) (k : ℕ) (v : Float) (inside : k < length xs) (few :
   unfolding w
   by-counts m g = level-equal v (rankedOf xs k) g (counts-each (λ q. sorted-count q xs) m .each k in-sorted) not-ahead not-behind
 
+-- and so it is of the value at place k
+module _ (xs : List Float) (k : ℕ) (inside : k < length xs) where
+  in-order : k < length (sorted xs)
+  in-order = omega (arith, inside, sorted-length xs)
+
+  pub ranked-few : count (λ (y : Float). ahead y (rankedOf xs k)) xs ≤ k
+  ranked-few = rw (sorted-count (λ (y : Float). ahead y (rankedOf xs k)) xs) (count-most (λ (y : Float). ahead y (rankedOf xs k)) (sorted xs) k (λ i l h. rising-at (sorted xs) (sorted-rising xs) k i l h))
+
+  pub ranked-many : k < count (λ (y : Float). not (ahead (rankedOf xs k) y)) xs
+  ranked-many = rw (sorted-count (λ (y : Float). not (ahead (rankedOf xs k) y)) xs) (count-least (λ (y : Float). not (ahead (rankedOf xs k) y)) (sorted xs) (suc k) (omega (arith, in-order)) (λ i l. ap not (rising-at (sorted xs) (sorted-rising xs) i k (omega (arith, l)) in-order)))
+
 -- ---- by patterns
 record Held (y : Float) : Type 0 where
   clear : unsigned y ≡ true
   held : T (fits binary64 y)
 
-both-parts : (a b : Bool) → (a && b) ≡ true → (a ≡ true) × (b ≡ true)
+pub both-parts : (a b : Bool) → (a && b) ≡ true → (a ≡ true) × (b ≡ true)
 both-parts true b e = (refl, e)
 both-parts false b e = absurd (false≢true e)
 
@@ -82,7 +92,7 @@ is-number (inf s) e = tt
 is-number (fin s m k) e = tt
 
 -- a number below a pattern's value has a lower pattern
-below-pattern : (y : Float) (p : ℕ) → magnitude y ≡ true → isNan y ≡ false → p ≤ highest → lt y (ofBits binary64 p) ≡ ltb (toBits binary64 y) p
+pub below-pattern : (y : Float) (p : ℕ) → magnitude y ≡ true → isNan y ≡ false → p ≤ highest → lt y (ofBits binary64 p) ≡ ltb (toBits binary64 y) p
 below-pattern y p m n h =
     let a = held-number y m n in
     let b = pattern-of p h in
@@ -101,49 +111,20 @@ nan-below-none (inf s) x e = absurd (false≢true e)
 nan-below-none (fin s m k) x e = absurd (false≢true e)
 
 -- what is below something is a number
-below-number : (y x : Float) → lt y x ≡ true → isNan y ≡ false
+pub below-number : (y x : Float) → lt y x ≡ true → isNan y ≡ false
 below-number y x e = side (isNan y) refl
   where
     side : (b : Bool) → isNan y ≡ b → isNan y ≡ false
     side false n = n
     side true n = absurd (false≢true (sym (nan-below-none y x n) ∙ e))
 
--- ---- the steps
-none-below-zero : (y : Float) → magnitude y ≡ true → lt y (ofBits binary64 0) ≡ false
+-- ---- zero
+pub none-below-zero : (y : Float) → magnitude y ≡ true → lt y (ofBits binary64 0) ≡ false
 none-below-zero y m = side (isNan y) refl
   where
     side : (b : Bool) → isNan y ≡ b → lt y (ofBits binary64 0) ≡ false
     side true n = nan-below-none y (ofBits binary64 0) n
     side false n = below-pattern y 0 m n (omega arith) ∙ le-ltb (toBits binary64 y) 0 (omega arith)
-
-pub near-first : (xs : List Float) (k : ℕ) → Each magnitude xs → Near xs k 0 0x8000_0000_0000_0000
-near-first xs k m =
-    record {
-      known = omega arith;
-      few = omega (arith, count-most (λ (y : Float). lt y (ofBits binary64 0)) xs 0 (λ i l h. none-below-zero (getD xs i nan) (m .each i h)));
-      many = λ h. absurd (let z : 0x8000_0000_0000_0000 ≤ 0x7ff0_0000_0000_0000 = h in omega (arith, z));
-    }
-
-twice : (p gap : ℕ) → p + gap + gap ≡ p + 2 * gap
-twice p gap = omega arith
-
-too-far : {next : ℕ} (p gap : ℕ) → next ≡ p + gap → highest < next → p + gap ≤ highest → ⊥
-too-far p gap e h q = omega (arith, e, h, q)
-
-module _ (xs : List Float) (k p gap : ℕ) (n : Near xs k p (2 * gap)) where
-  pub near-next : {next c : ℕ} {x : Float} → next ≡ p + gap → next ≤ highest → x ≡ ofBits binary64 next → c ≡ below x xs → c ≤ k → Near xs k next gap
-  near-next {next} {c} {x} e h f g l =
-      record {
-        known = h;
-        few = subst (λ (z : Float). below z xs ≤ k) f (rw (← g) l);
-        many = λ q. rw (e, twice p gap) (n .many (rw (e, twice p gap) at q));
-      }
-
-  pub near-far : {next : ℕ} → next ≡ p + gap → highest < next → Near xs k p gap
-  near-far e h = record { known = n .known; few = n .few; many = λ q. absurd (too-far p gap e h q) }
-
-  pub near-many : {next c : ℕ} {x : Float} → next ≡ p + gap → x ≡ ofBits binary64 next → c ≡ below x xs → k < c → Near xs k p gap
-  near-many {next} {c} {x} e f g l = record { known = n .known; few = n .few; many = λ q. rw (← e) (subst (λ (z : Float). k < below z xs) f (rw (← g) l)) }
 
 pattern-magnitude : (p : ℕ) → p ≤ highest → magnitude (ofBits binary64 p) ≡ true
 unfolding magnitude unsigned
@@ -154,12 +135,16 @@ pattern-magnitude p h = let b = pattern-of p h in value (ofBits binary64 p) (b .
     value (inf s) c f = c
     value (fin s k e) c f = rw (c, is-true (fits binary64 (fin s k e)) f) refl
 
+-- two patterns' values stand as the patterns do
+pub pattern-below : (p q : ℕ) → p ≤ highest → q ≤ highest → lt (ofBits binary64 p) (ofBits binary64 q) ≡ ltb p q
+pattern-below p q h k = let b = pattern-of p h in below-pattern (ofBits binary64 p) q (pattern-magnitude p h) (b .number) k ∙ ap (λ (x : ℕ). ltb x q) (b .back)
+
 nan-magnitude : magnitude nan ≡ true
 unfolding magnitude
 nan-magnitude = refl
 
 -- a number equals itself, and nothing else does
-equals-itself : (y : Float) → isNan y ≡ false → eq y y ≡ true
+pub equals-itself : (y : Float) → isNan y ≡ false → eq y y ≡ true
 unfolding ne isNan
 equals-itself y n = side (eq y y) (differs-from-itself y)
   where
@@ -175,31 +160,6 @@ itself-number (fin s m d) e = refl
 
 within : (a b : ℕ) → a < b + 1 → a ≤ b
 within a b h = omega (arith, h)
-
--- ---- gaps are powers of two
-pub record Gap (gap : ℕ) : Type 0 where
-  pub power : ℕ
-  pub is : gap ≡ 2 ^ power
-  pub small : gap ≤ 0x8000_0000_0000_0000
-
-pub gap-first : Gap 0x8000_0000_0000_0000
-gap-first = record { power = 63; is = refl; small = omega arith }
-
-pub gap-half : {gap : ℕ} → Gap gap → 1 < gap → Gap (gap / 2) × (gap ≡ 2 * (gap / 2))
-gap-half {gap} g h = halved (g .power) (g .is)
-  where
-    halved : (j : ℕ) → gap ≡ 2 ^ j → Gap (gap / 2) × (gap ≡ 2 * (gap / 2))
-    halved zero e = absurd (let z : 2 ^ 0 ≡ 1 = refl in omega (arith, e, z, h))
-    halved (suc j) e =
-        let d : gap ≡ 2 ^ j * 2 = e ∙ pow-suc 2 j in
-        let q : gap / 2 ≡ 2 ^ j = omega (arith, d) in
-        (record { power = j; is = q; small = omega (arith, g .small) }, omega (arith, d, q))
-
-pub gap-some : {gap : ℕ} → Gap gap → 1 ≤ gap
-gap-some {gap} g = rw (g .is) (pow-pos (g .power))
-
-pub near-gap : {xs : List Float} {k p gap other : ℕ} → gap ≡ other → Near xs k p gap → Near xs k p other
-near-gap {xs} {k} {p} e n = subst (λ (g : ℕ). Near xs k p g) e n
 
 -- ---- the value
 module _ (xs : List Float) (m : Each magnitude xs) (k : ℕ) (inside : k < length xs) where
@@ -217,7 +177,7 @@ module _ (xs : List Float) (m : Each magnitude xs) (k : ℕ) (inside : k < lengt
       last (inf s) = refl
       last (fin s n d) = refl
 
-  pub near-found : {p : ℕ} → k < numbers xs → Near xs k p 1 → ofBits binary64 p ≡ rankedOf xs k
+  pub near-found : {p : ℕ} → k < numbers xs → Near xs k p → ofBits binary64 p ≡ rankedOf xs k
   unfolding toBits
   near-found {p} some n = by-counts xs k (ofBits binary64 p) inside few many m (pattern-magnitude p (n .known))
     where

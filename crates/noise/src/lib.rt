@@ -7,6 +7,7 @@
 // How the middle differences are found is the crate's own affair: `middles` alone stands between the
 // median and the search for a rank, and no public contract says how it is made.
 mod middle;
+mod narrow;
 mod rank;
 mod variance;
 
@@ -17,4 +18,13 @@ pub use variance::noise_variance;
 struct Middles {
     low: f64,
     high: f64,
+}
+
+// Two bit patterns that a value which is looked for lies between, the low one included, with the counts
+// of the values below each.
+struct Bracket {
+    low: u64,
+    high: u64,
+    under: usize,
+    upto: usize,
 }

@@ -1,13 +1,20 @@
 // The median of a channel's differences.
 ghost use mathlib.Core.Path.{_≡_};
-ghost use Prim.Native.Nat.{_+_, _<_};
+ghost use mathlib.Core.Bool.{false};
+ghost use Prim.Native.Nat.{_+_, _-_, _≤_, _<_};
 ghost use lib.ListN.{length, replicate};
 ghost use Rattle.floats.specs.Numbers.{+0};
-ghost use Rattle.noise.specs.Ranks.{Each, magnitude, middlesOf};
+ghost use Rattle.noise.specs.Ranks.{Each, magnitude, rankedOf, Around, wide, middlesOf};
 ghost use Rattle.noise.specs.Median.{differences, median};
+use crate::Bracket;
 use crate::Middles;
+use crate::narrow::count_below;
+use crate::narrow::narrowed;
+use crate::narrow::widest;
+use crate::rank::gather;
 use crate::rank::ranked;
 use areas::clear_floats;
+use floats::from_bits;
 
 // Cost: one turn for each difference.
 fn difference(channel: &[f64], run: &mut [f64])
@@ -21,17 +28,69 @@ fn difference(channel: &[f64], run: &mut [f64])
     }
 }
 
-// The two middle values of a run. Cost: those of finding two values by their ranks.
+// The values at two places, each found by itself. Cost: those of finding one value by its rank, or two.
+fn one_by_one(run: &[f64], first: usize, second: usize) -> Middles
+    requires { ⌜ (first < length (now run)) × (second < length (now run)) × Each magnitude (now run) ⌝ }
+    ensures { λ r. ⌜ (r .low ≡ rankedOf (now (run .entry)) first) × (r .high ≡ rankedOf (now (run .entry)) second) ⌝ }
+{
+    let low = ranked(run, first);
+    if first == second {
+        return Middles { low, high: low };
+    }
+    let high = ranked(run, second);
+    Middles { low, high }
+}
+
+// The values at two places within a bracket that has few values: they are found among those alone.
+fn among_few(run: &[f64], b: Bracket, first: usize, second: usize) -> Middles
+    requires { ⌜ Around (now run) first b × (first ≤ second) × (second < b .upto) × (b .upto - b .under ≤ 256) × Each magnitude (now run) ⌝ }
+    ensures { λ r. ⌜ (r .low ≡ rankedOf (now (run .entry)) first) × (r .high ≡ rankedOf (now (run .entry)) second) ⌝ }
+{
+    let mut part = [0.0; 256];
+    let size = gather(run, from_bits(b.low), from_bits(b.high), &mut part);
+    let low = ranked(&part[..size], first - b.under);
+    if first == second {
+        return Middles { low, high: low };
+    }
+    let high = ranked(&part[..size], second - b.under);
+    Middles { low, high }
+}
+
+// The values at two places within a bracket. One that has many values has one pattern.
+fn within_bracket(run: &[f64], b: Bracket, first: usize, second: usize) -> Middles
+    requires { ⌜ Around (now run) first b × (wide b 256 ≡ false) × (first ≤ second) × (second < b .upto) × Each magnitude (now run) ⌝ }
+    ensures { λ r. ⌜ (r .low ≡ rankedOf (now (run .entry)) first) × (r .high ≡ rankedOf (now (run .entry)) second) ⌝ }
+{
+    if b.upto - b.under <= 256 {
+        return among_few(run, b, first, second);
+    }
+    let value = from_bits(b.low);
+    Middles {
+        low: value,
+        high: value,
+    }
+}
+
+// The two middle values of a run. Cost: some 15 passes over the run where its values differ, at most twice
+// those of finding a value by its rank.
 fn middles(run: &[f64]) -> Middles
     requires { ⌜ (0 < length (now run)) × Each magnitude (now run) ⌝ }
     ensures { λ r. ⌜ r ≡ middlesOf (now (run .entry)) ⌝ }
 {
-    let low = ranked(run, (run.len() - 1) / 2);
-    if run.len() % 2 == 1 {
-        return Middles { low, high: low };
+    let first = (run.len() - 1) / 2;
+    let second = run.len() / 2;
+    if run.len() <= 256 {
+        return one_by_one(run, first, second);
     }
-    let high = ranked(run, run.len() / 2);
-    Middles { low, high }
+    let finite = count_below(run, f64::from_bits(0x7ff0_0000_0000_0000));
+    if finite <= second {
+        return one_by_one(run, first, second);
+    }
+    let b = narrowed(run, first, widest(finite), 256);
+    if b.upto <= second {
+        return one_by_one(run, first, second);
+    }
+    within_bracket(run, b, first, second)
 }
 
 // The median of the differences, worked out in a run that is +0 afterwards.

@@ -1,24 +1,11 @@
 // The value at a place of a run in order, found by its bit pattern without putting the run in order.
 ghost use mathlib.Core.Path.{_≡_};
-ghost use Prim.Native.Nat.{_≤_, _<_, _+_, _*_};
-ghost use lib.ListN.{length};
-ghost use Rattle.noise.specs.Ranks.{Each, magnitude, below, numbers, rankedOf, highest, Near};
-
-// How many values are below x. Cost: one turn for each value.
-fn count_below(run: &[f64], x: f64) -> usize
-    ensures { λ r. ⌜ r ≡ below x (now (run .entry)) ⌝ }
-{
-    let mut count = 0;
-    let mut i = 0;
-    while i < run.len() {
-        let value = run[i];
-        i += 1;
-        if value < x {
-            count += 1;
-        }
-    }
-    count
-}
+ghost use Prim.Native.Nat.{_≤_, _<_};
+ghost use lib.ListN.{length, take};
+ghost use Rattle.noise.specs.Ranks.{Each, magnitude, count, numbers, rankedOf, between, kept};
+use crate::narrow::count_below;
+use crate::narrow::narrowed;
+use crate::narrow::widest;
 
 // How many values are not NaN. Cost: one turn for each value.
 fn count_numbers(run: &[f64]) -> usize
@@ -36,35 +23,45 @@ fn count_numbers(run: &[f64]) -> usize
     count
 }
 
-// The pattern a gap further on where that is not too far, and else the pattern itself. What is known up
-// to twice the gap is then known up to the gap.
-fn nearer(run: &[f64], place: usize, pattern: u64, gap: u64) -> u64
-    requires { ⌜ Near (now run) place pattern (2 * gap) × (gap < highest) ⌝ }
-    ensures { λ r. ⌜ Near (now (run .entry)) place r gap ⌝ }
-{
-    let next = pattern + gap;
-    if next <= 0x7ff0_0000_0000_0000 {
-        if count_below(run, floats::from_bits(next)) <= place {
-            return next;
-        }
-    }
-    pattern
-}
-
-// The value at a place of the run in order, of which none has a sign. Cost: 63 turns, each one pass over
-// the run, whatever its order.
+// The value at a place of the run in order, of which none has a sign. Cost: at most 65 passes over the
+// run, whatever its order.
 pub(crate) fn ranked(run: &[f64], place: usize) -> f64
     requires { ⌜ (place < length (now run)) × Each magnitude (now run) ⌝ }
     ensures { λ r. ⌜ r ≡ rankedOf (now (run .entry)) place ⌝ }
 {
-    if count_numbers(run) <= place {
-        return 0.0 / 0.0;
+    let infinity = f64::from_bits(0x7ff0_0000_0000_0000);
+    let finite = count_below(run, infinity);
+    if finite <= place {
+        if count_numbers(run) <= place {
+            return 0.0 / 0.0;
+        }
+        return infinity;
     }
-    let mut pattern = 0;
-    let mut gap = 0x8000_0000_0000_0000;
-    while 1 < gap {
-        gap = gap / 2;
-        pattern = nearer(run, place, pattern, gap);
+    floats::from_bits(narrowed(run, place, widest(finite), 0).low)
+}
+
+// Whether a value is below high and not below low.
+fn is_between(value: f64, low: f64, high: f64) -> bool
+    ensures { λ r. ⌜ r ≡ between low high value ⌝ }
+{
+    (value < high) & !(value < low)
+}
+
+// Copies the values from low up to high into a part, and says how many they are. Cost: one turn for each
+// value.
+pub(crate) fn gather(run: &[f64], low: f64, high: f64, part: &mut [f64]) -> usize
+    requires { ⌜ count (between low high) (now run) ≤ length (now part) ⌝ }
+    ensures { λ r. ⌜ (r ≡ length (kept (between low high) (now (run .entry)))) × (take r (now (part .exit)) ≡ kept (between low high) (now (run .entry))) ⌝ }
+{
+    let mut size = 0;
+    let mut i = 0;
+    while i < run.len() {
+        let value = run[i];
+        i += 1;
+        if is_between(value, low, high) {
+            part[size] = value;
+            size += 1;
+        }
     }
-    floats::from_bits(pattern)
+    size
 }

@@ -1,44 +1,55 @@
--- `noise::rank::ranked` meets its contract: the gap is halved until it is 1. Assumes nothing.
-use mathlib.Core.Path.{_≡_, _∙_}
+-- `noise::rank::ranked` meets its contract: a bracket of one pattern is the value's. Assumes nothing.
+use mathlib.Core.Path.{_∙_}
 use native.Mathlib.Omega.{arith}
-use lib.Ieee.{ofBits, div}
-use Rattle.noise.specs.Ranks.{Near}
-use Rattle.noise.proofs.RankLaws.{Gap, gap-first, gap-half, gap-some, near-gap, near-first, near-nan, near-found}
+use lib.Ieee.{nanBits, ofBits, div}
+use native.Mathlib.Nat.{le-refl}
+use Rattle.noise.proofs.RankLaws.{near-nan}
+use Rattle.noise.proofs.BracketLaws.{around-first, around-found, infinite-found, one-pattern}
 use Rattle.noise.proofs.rank.ranked.Statement.{statement}
 use Rattle.noise.proofs.rank.ranked.Tie as tie
 
-abbrev Inv-loop : tie.InvT-loop
-Inv-loop run place pattern₀ gap₀ pattern gap = Gap gap × Near run place pattern gap
+float-from-bits-infinity : tie.Need-float-from-bits-infinity
+unfolding nanBits
+float-from-bits-infinity c = tt
 
-abbrev μ-loop : tie.MeasureT-loop
-μ-loop run place pattern₀ gap₀ pattern gap = gap
+count-below-requires : tie.Need-count-below-requires
+count-below-requires c κs = tt
 
-count-numbers-requires : tie.Need-count-numbers-requires Inv-loop μ-loop
+count-numbers-requires : tie.Need-count-numbers-requires
 count-numbers-requires c κs = tt
 
-returns : tie.Need-returns Inv-loop μ-loop
+returns : tie.Need-returns
 unfolding ofBits div
-returns c = near-nan _ (c .before .before .before .pre .1) _ (c .before .before .before .pre .0) (rw (c .before .count-numbers .ensures) at (c .if1 .taken))
+returns c = near-nan _ (c .before .before .before .before .before .pre .1) _ (c .before .before .before .before .before .pre .0) (rw (c .before .count-numbers .ensures) at (c .if2 .taken))
 
-loop-holds : tie.Need-loop-holds Inv-loop μ-loop
-loop-holds c = (gap-first, near-first _ _ (c .before .before .before .pre .1))
+returns-2 : tie.Need-returns-2
+returns-2 c = infinite-found _ (c .before .before .before .before .before .pre .1) _ (c .before .before .before .before .before .pre .0) (rw (c .before .before .before .count-below .ensures) at (c .before .before .if1 .taken)) (rw (c .before .count-numbers .ensures) at (c .if2 .left))
 
-nearer-requires : tie.Need-nearer-requires Inv-loop μ-loop
-nearer-requires c κs = let l = c .before .loop .inv in let h = gap-half (l .0) (c .loop-test .taken) in (near-gap (h .1) (l .1), omega (arith, l .0 .small))
+widest-requires : tie.Need-widest-requires
+widest-requires c κs = tt
 
-loop-less : tie.Need-loop-less Inv-loop μ-loop
-loop-less c = omega arith
+narrowed-requires : tie.Need-narrowed-requires
+narrowed-requires c κs = let w = c .widest .ensures in around-first _ _ _ (c .before .before .before .before .pre .1) (w .0) (w .1) (w .2) (w .3 ∙ c .before .before .count-below .ensures) (rw (w .3) (c .before .if1 .left))
 
-loop-again : tie.Need-loop-again Inv-loop μ-loop
-loop-again c = (gap-half (c .before .before .loop .inv .0) (c .before .loop-test .taken) .0, c .nearer .ensures)
-
-from-bits-requires : tie.Need-from-bits-requires Inv-loop μ-loop
+from-bits-requires : tie.Need-from-bits-requires
 from-bits-requires c κs = tt
 
-returns-2 : tie.Need-returns-2 Inv-loop μ-loop
-returns-2 c = let l = c .before .before .loop .inv in
-    let e : c .before .before .loop .gap ≡ 1 = omega (arith, gap-some (l .0), c .before .loop-test) in
-    c .from-bits .ensures ∙ near-found _ (c .before .before .before .before .before .before .pre .1) _ (c .before .before .before .before .before .before .pre .0) (rw (c .before .before .before .before .count-numbers .ensures) at (c .before .before .before .if1 .left)) (near-gap e (l .1))
+returns-3 : tie.Need-returns-3
+returns-3 c =
+    let n = c .before .narrowed .ensures in
+    let b = c .before .narrowed .result in
+    c .from-bits .ensures ∙ around-found _ (c .before .before .before .before .before .before .pre .1) _ b (n .0) (le-refl _) (n .0 .many) (one-pattern b 0 (n .1) (omega (arith, n .0 .few, n .0 .many)))
 
 pub ranked-spec : {M : Type 1} → statement M
-ranked-spec = tie.close (tie.spec Inv-loop μ-loop count-numbers-requires returns loop-holds nearer-requires loop-less loop-again from-bits-requires returns-2)
+ranked-spec =
+    tie.close
+    (tie.spec
+    float-from-bits-infinity
+    count-below-requires
+    count-numbers-requires
+    returns
+    returns-2
+    widest-requires
+    narrowed-requires
+    from-bits-requires
+    returns-3)

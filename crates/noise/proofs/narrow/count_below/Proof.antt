@@ -1,4 +1,4 @@
--- `noise::rank::count_below` meets its contract: it counts the values before a place. Assumes nothing.
+-- `noise::narrow::count_below` meets its contract: it counts the values before a place. Assumes nothing.
 use mathlib.Core.Path.{_≡_, refl}
 use Prim.Native.Nat.{_-_, _≤_}
 use native.Mathlib.Omega.{arith}
@@ -8,8 +8,8 @@ use lib.Ieee.{Float, lt}
 use Rattle.noise.specs.Ranks as Ranks
 use Rattle.noise.specs.Ranks.{count}
 use Rattle.noise.proofs.CountLaws.{counted-in, counted-out, counted-all}
-use Rattle.noise.proofs.rank.count_below.Statement.{statement}
-use Rattle.noise.proofs.rank.count_below.Tie as tie
+use Rattle.noise.proofs.narrow.count_below.Statement.{statement}
+use Rattle.noise.proofs.narrow.count_below.Tie as tie
 
 abbrev Inv-loop : tie.InvT-loop
 Inv-loop run x count₀ i₀ count i = (i ≤ length run) × (count ≤ i) × (count ≡ Ranks.count (λ (y : Float). lt y x) (take i run))
