@@ -1,3 +1,4 @@
 pub mod Sums
 pub mod Extremes
 pub mod EachChannel
+pub mod Blocks
