@@ -1,11 +1,11 @@
 -- Brackets around the value at a place: the first one, its halves, and what one says at the end. Assumes nothing.
-use Prim.Native.Nat.{ℕ, _+_, _-_, _/_, _≤_, _<_}
+use Prim.Native.Nat.{ℕ, _+_, _-_, _≤_, _<_}
 use mathlib.Core.Path.{_≡_, refl, sym, ap, _∙_}
 use mathlib.Core.Bool.{Bool, true, false, _&&_, true≢false}
 use mathlib.Core.List.{List}
 use native.Mathlib.Nat.{le-refl, le-trans, le-of-lt, lt-of-lt-of-le}
 use native.Mathlib.Omega.{arith}
-use borrow.Author.Tests.{ltb-false, lt-ltb}
+use borrow.Author.Tests.{ltb-false, lt-ltb, le-ltb}
 use lib.Dec.{ltb}
 use lib.ListN.{length, getD}
 use lib.Ieee.{Float, nan, binary64, lt, eq, ofBits}
@@ -31,16 +31,16 @@ around-first xs k b m el eh eu e h =
     none : below (ofBits binary64 0) xs ≡ 0
     none = omega (arith, count-most (λ (y : Float). lt y (ofBits binary64 0)) xs 0 (λ i l h. none-below-zero (getD xs i nan) (m .each i h)))
 
--- its upper and its lower half
-module _ (xs : List Float) (k : ℕ) (b : Bracket) (a : Around xs k b) (wider : 1 < b .high - b .low) {middle c : ℕ} {x : Float} (e : middle ≡ b .low + (b .high - b .low) / 2) (f : x ≡ ofBits binary64 middle) (g : c ≡ below x xs) where
-  counted : c ≡ below (ofBits binary64 middle) xs
+-- its two parts around a pattern
+module _ (xs : List Float) (k : ℕ) (b : Bracket) (a : Around xs k b) {pattern c : ℕ} (l : b .low < pattern) (h : pattern < b .high) {x : Float} (f : x ≡ ofBits binary64 pattern) (g : c ≡ below x xs) where
+  counted : c ≡ below (ofBits binary64 pattern) xs
   counted = g ∙ ap (λ (z : Float). below z xs) f
 
-  pub upper-half : c ≤ k → Around xs k (record { low = middle; high = b .high; under = c; upto = b .upto }) × (b .high - middle < b .high - b .low)
-  upper-half l = (record { known = a .known; apart = omega (arith, e, wider); low-counted = counted; high-counted = a .high-counted; few = l; many = a .many }, omega (arith, e, wider))
+  pub upper-part : c ≤ k → Around xs k (record { low = pattern; high = b .high; under = c; upto = b .upto }) × (b .high - pattern < b .high - b .low)
+  upper-part t = (record { known = a .known; apart = h; low-counted = counted; high-counted = a .high-counted; few = t; many = a .many }, omega (arith, l, h))
 
-  pub lower-half : k < c → Around xs k (record { low = b .low; high = middle; under = b .under; upto = c }) × (middle - b .low < b .high - b .low)
-  lower-half l = (record { known = omega (arith, e, wider, a .known); apart = omega (arith, e, wider); low-counted = a .low-counted; high-counted = counted; few = a .few; many = l }, omega (arith, e, wider))
+  pub lower-part : k < c → Around xs k (record { low = b .low; high = pattern; under = b .under; upto = c }) × (pattern - b .low < b .high - b .low)
+  lower-part t = (record { known = omega (arith, h, a .known); apart = l; low-counted = a .low-counted; high-counted = counted; few = a .few; many = t }, omega (arith, l, h))
 
 -- where a bracket has one pattern, it is the value's
 some-number : (xs : List Float) (p : ℕ) → below (ofBits binary64 p) xs ≤ numbers xs
@@ -67,13 +67,20 @@ infinite-found xs m k inside few some =
 pub below-further : (p q : ℕ) → p < q → q ≤ highest → (y : Float) → lt y (ofBits binary64 p) ≡ true → lt y (ofBits binary64 q) ≡ true
 below-further p q l h y e = lt-transitive y (ofBits binary64 p) (ofBits binary64 q) e (pattern-below p q (le-trans (le-of-lt l) h) h ∙ lt-ltb p q l)
 
--- halving goes on while there is more than one pattern, or there are few enough values
-pub one-pattern : (b : Bracket) (enough : ℕ) → wide b enough ≡ false → enough < b .upto - b .under → ltb 1 (b .high - b .low) ≡ false
-one-pattern b enough e h = side (ltb 1 (b .high - b .low)) (ltb enough (b .upto - b .under)) e (lt-ltb enough (b .upto - b .under) h)
+-- halving goes on until there is one pattern, or there are few enough values
+pub one-pattern : (b : Bracket) (values : ℕ) → wide b 1 values ≡ false → values < b .upto - b .under → ltb 1 (b .high - b .low) ≡ false
+one-pattern b values e h = side (ltb 1 (b .high - b .low)) (ltb values (b .upto - b .under)) e (lt-ltb values (b .upto - b .under) h)
   where
     side : (p q : Bool) → (p && q) ≡ false → q ≡ true → p ≡ false
     side false q e f = refl
     side true q e f = absurd (true≢false (sym f ∙ e))
+
+pub few-values : (b : Bracket) (patterns values : ℕ) → b .upto - b .under ≤ values → wide b patterns values ≡ false
+few-values b patterns values h = side (ltb patterns (b .high - b .low)) (le-ltb values (b .upto - b .under) h)
+  where
+    side : (p : Bool) {q : Bool} → q ≡ false → (p && q) ≡ false
+    side true e = e
+    side false e = refl
 
 -- ---- the values of a bracket, copied: how many they are, and the value at a place among them
 module _ (xs : List Float) {first : ℕ} (b : Bracket) (a : Around xs first b) {lo hi : Float} (e : lo ≡ ofBits binary64 (b .low)) (f : hi ≡ ofBits binary64 (b .high)) (k : ℕ) (l : first ≤ k) (h : k < b .upto) where

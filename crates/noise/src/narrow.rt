@@ -33,16 +33,15 @@ pub(crate) fn widest(upto: usize) -> Bracket
     }
 }
 
-// The lower or the upper half of a bracket. Cost: one pass over the run.
-fn halved(run: &[f64], place: usize, b: Bracket) -> Bracket
-    requires { ⌜ Around (now run) place b × (1 < b .high - b .low) ⌝ }
+// The part of a bracket below a pattern, or the part from it on. Cost: one pass over the run.
+fn split(run: &[f64], place: usize, b: Bracket, pattern: u64) -> Bracket
+    requires { ⌜ Around (now run) place b × (b .low < pattern) × (pattern < b .high) ⌝ }
     ensures { λ r. ⌜ Around (now (run .entry)) place r × (r .high - r .low < b .high - b .low) ⌝ }
 {
-    let middle = b.low + (b.high - b.low) / 2;
-    let count = count_below(run, floats::from_bits(middle));
+    let count = count_below(run, floats::from_bits(pattern));
     if count <= place {
         return Bracket {
-            low: middle,
+            low: pattern,
             high: b.high,
             under: count,
             upto: b.upto,
@@ -50,29 +49,48 @@ fn halved(run: &[f64], place: usize, b: Bracket) -> Bracket
     }
     Bracket {
         low: b.low,
-        high: middle,
+        high: pattern,
         under: b.under,
         upto: count,
     }
 }
 
-// Whether a bracket has more than one pattern and more than enough values.
-fn is_wide(b: Bracket, enough: usize) -> bool
-    requires { ⌜ (b .low ≤ b .high) × (b .under ≤ b .upto) ⌝ }
-    ensures { λ r. ⌜ r ≡ wide b enough ⌝ }
+// The same at any pattern: one that does not lie within the bracket leaves it as it is.
+pub(crate) fn tried(run: &[f64], place: usize, b: Bracket, pattern: u64) -> Bracket
+    requires { ⌜ Around (now run) place b ⌝ }
+    ensures { λ r. ⌜ Around (now (run .entry)) place r ⌝ }
 {
-    (1 < b.high - b.low) & (enough < b.upto - b.under)
+    if b.low < pattern {
+        if pattern < b.high {
+            return split(run, place, b, pattern);
+        }
+    }
+    b
 }
 
-// The bracket halved until it has one pattern or few enough values. Cost: at most 63 turns, each one pass
-// over the run, whatever its order.
-pub(crate) fn narrowed(run: &[f64], place: usize, start: Bracket, enough: usize) -> Bracket
-    requires { ⌜ Around (now run) place start ⌝ }
-    ensures { λ r. ⌜ Around (now (run .entry)) place r × (wide r enough ≡ false) ⌝ }
+// Whether a bracket has more than enough patterns and more than enough values.
+fn is_wide(b: Bracket, patterns: u64, values: usize) -> bool
+    requires { ⌜ (b .low ≤ b .high) × (b .under ≤ b .upto) ⌝ }
+    ensures { λ r. ⌜ r ≡ wide b patterns values ⌝ }
+{
+    (patterns < b.high - b.low) & (values < b.upto - b.under)
+}
+
+// The bracket halved until it has few enough patterns or few enough values. Cost: at most 63 turns, each
+// one pass over the run, whatever its order.
+pub(crate) fn narrowed(
+    run: &[f64],
+    place: usize,
+    start: Bracket,
+    patterns: u64,
+    values: usize,
+) -> Bracket
+    requires { ⌜ Around (now run) place start × (0 < patterns) ⌝ }
+    ensures { λ r. ⌜ Around (now (run .entry)) place r × (wide r patterns values ≡ false) ⌝ }
 {
     let mut b = start;
-    while is_wide(b, enough) {
-        b = halved(run, place, b);
+    while is_wide(b, patterns, values) {
+        b = split(run, place, b, b.low + (b.high - b.low) / 2);
     }
     b
 }

@@ -2,9 +2,11 @@
 ghost use mathlib.Core.Path.{_≡_};
 ghost use Prim.Native.Nat.{_≤_, _<_};
 ghost use lib.ListN.{length, take};
-ghost use Rattle.noise.specs.Ranks.{Each, magnitude, count, numbers, rankedOf, between, kept};
+ghost use Rattle.noise.specs.Ranks.{Each, magnitude, count, numbers, rankedOf, Around, between, kept};
+use crate::Bracket;
 use crate::narrow::count_below;
 use crate::narrow::narrowed;
+use crate::narrow::tried;
 use crate::narrow::widest;
 
 // How many values are not NaN. Cost: one turn for each value.
@@ -37,7 +39,7 @@ pub(crate) fn ranked(run: &[f64], place: usize) -> f64
         }
         return infinity;
     }
-    floats::from_bits(narrowed(run, place, widest(finite), 0).low)
+    floats::from_bits(narrowed(run, place, widest(finite), 1, 0).low)
 }
 
 // Whether a value is below high and not below low.
@@ -64,4 +66,33 @@ pub(crate) fn gather(run: &[f64], low: f64, high: f64, part: &mut [f64]) -> usiz
         }
     }
     size
+}
+
+// The first value from low up to high, or NaN. It is only tried, so nothing is promised of it. Cost: one
+// turn for each value up to it.
+fn first_between(run: &[f64], low: f64, high: f64) -> f64 {
+    let mut i = 0;
+    while i < run.len() {
+        let value = run[i];
+        if is_between(value, low, high) {
+            return value;
+        }
+        i += 1;
+    }
+    0.0 / 0.0
+}
+
+// The bracket split at the first of its values and just above it, which leaves equal values alone if most
+// of its values are those. Cost: at most three passes over the run.
+pub(crate) fn guessed(run: &[f64], place: usize, b: Bracket) -> Bracket
+    requires { ⌜ Around (now run) place b ⌝ }
+    ensures { λ r. ⌜ Around (now (run .entry)) place r ⌝ }
+{
+    let value = first_between(run, floats::from_bits(b.low), floats::from_bits(b.high));
+    let pattern = floats::to_bits(value);
+    if pattern < b.high {
+        let above = tried(run, place, b, pattern);
+        return tried(run, place, above, pattern + 1);
+    }
+    b
 }

@@ -32,8 +32,8 @@ returns-2 c = middles-found _ (c .one-by-one2 .ensures .0) (c .one-by-one2 .ensu
 widest-requires : tie.Need-widest-requires
 widest-requires c κs = tt
 
-narrowed-requires : tie.Need-narrowed-requires
-narrowed-requires c κs = let w = c .widest .ensures in around-first _ _ _ (c .before .before .before .before .before .pre .1) (w .0) (w .1) (w .2) (w .3 ∙ c .before .before .count-below .ensures) (rw (w .3) (omega (arith, c .before .if2 .left)))
+near-middle-requires : tie.Need-near-middle-requires
+near-middle-requires c κs = let w = c .widest .ensures in around-first _ _ _ (c .before .before .before .before .before .pre .1) (w .0) (w .1) (w .2) (w .3 ∙ c .before .before .count-below .ensures) (rw (w .3) (omega (arith, c .before .if2 .left)))
 
 one-by-one-requires-3 : tie.Need-one-by-one-requires-3
 one-by-one-requires-3 c κs = let p = c .before .before .before .before .before .before .before .before .pre in (omega (arith, p .0), omega (arith, p .0), p .1)
@@ -42,7 +42,7 @@ returns-3 : tie.Need-returns-3
 returns-3 c = middles-found _ (c .one-by-one3 .ensures .0) (c .one-by-one3 .ensures .1)
 
 within-bracket-requires : tie.Need-within-bracket-requires
-within-bracket-requires c κs = let n = c .before .before .narrowed .ensures in (n .0, n .1, omega arith, c .if3 .left, c .before .before .before .before .before .before .before .before .pre .1)
+within-bracket-requires c κs = let n = c .before .before .near-middle .ensures in (n .0, n .1, omega arith, c .if3 .left, c .before .before .before .before .before .before .before .before .pre .1)
 
 returns-4 : tie.Need-returns-4
 returns-4 c = middles-found _ (c .within-bracket .ensures .0) (c .within-bracket .ensures .1)
@@ -59,7 +59,7 @@ middles-spec =
     one-by-one-requires-2
     returns-2
     widest-requires
-    narrowed-requires
+    near-middle-requires
     one-by-one-requires-3
     returns-3
     within-bracket-requires

@@ -1,7 +1,9 @@
 -- `noise::narrow::narrowed` meets its contract: each turn leaves fewer patterns. Assumes nothing.
 use mathlib.Core.Path.{sym, _∙_}
-use Prim.Native.Nat.{_-_}
+use Prim.Native.Nat.{_<_, _-_}
+use native.Mathlib.Omega.{arith}
 use borrow.Author.Needs.{needs}
+use lib.Dec.{ltb}
 use borrow.Author.Tests.{ltb-true}
 use Rattle.noise.proofs.RankLaws.{both-parts}
 use Rattle.noise.specs.Ranks.{Around}
@@ -9,19 +11,29 @@ use Rattle.noise.proofs.narrow.narrowed.Statement.{statement}
 use Rattle.noise.proofs.narrow.narrowed.Tie as tie
 
 abbrev Inv-loop : tie.InvT-loop
-Inv-loop run place enough b₀ b = Around run place b
+Inv-loop run place patterns values b₀ b = Around run place b
 
 abbrev μ-loop : tie.MeasureT-loop
-μ-loop run place enough b₀ b = b .high - b .low
+μ-loop run place patterns values b₀ b = b .high - b .low
 
 loop-holds : tie.Need-loop-holds Inv-loop μ-loop
-loop-holds c = search needs
+loop-holds c = c .before .pre .0
 
 is-wide-requires : tie.Need-is-wide-requires Inv-loop μ-loop
 is-wide-requires c κs = search needs
 
-halved-requires : tie.Need-halved-requires Inv-loop μ-loop
-halved-requires c κs = let w = both-parts _ _ (sym (c .before .is-wide .ensures) ∙ c .if1 .taken) in (c .before .before .loop .inv, ltb-true _ _ (w .0))
+sub-split : tie.Need-sub-split Inv-loop μ-loop
+sub-split c = search needs
+
+add-split : tie.Need-add-split Inv-loop μ-loop
+add-split c = search needs
+
+split-requires : tie.Need-split-requires Inv-loop μ-loop
+split-requires c κs =
+    let b = c .before .before .before .before .loop .b in
+    let w = both-parts (ltb (c .before .before .before .before .before .before .args .patterns) (b .high - b .low)) _ (sym (c .before .before .before .is-wide .ensures) ∙ c .before .before .if1 .taken) in
+    let h : c .before .before .before .before .before .before .args .patterns < b .high - b .low = ltb-true _ _ (w .0) in
+    (c .before .before .before .before .loop .inv, omega (arith, h, c .before .before .before .before .before .before .pre .1), omega (arith, h, c .before .before .before .before .before .before .pre .1))
 
 loop-less : tie.Need-loop-less Inv-loop μ-loop
 loop-less c = search needs
@@ -40,7 +52,9 @@ narrowed-spec =
     μ-loop
     loop-holds
     is-wide-requires
-    halved-requires
+    sub-split
+    add-split
+    split-requires
     loop-less
     loop-again
     returns)

@@ -29,7 +29,7 @@ widest-requires : tie.Need-widest-requires
 widest-requires c κs = tt
 
 narrowed-requires : tie.Need-narrowed-requires
-narrowed-requires c κs = let w = c .widest .ensures in around-first _ _ _ (c .before .before .before .before .pre .1) (w .0) (w .1) (w .2) (w .3 ∙ c .before .before .count-below .ensures) (rw (w .3) (c .before .if1 .left))
+narrowed-requires c κs = let w = c .widest .ensures in (around-first _ _ _ (c .before .before .before .before .pre .1) (w .0) (w .1) (w .2) (w .3 ∙ c .before .before .count-below .ensures) (rw (w .3) (c .before .if1 .left)), omega arith)
 
 from-bits-requires : tie.Need-from-bits-requires
 from-bits-requires c κs = tt
