@@ -47,7 +47,7 @@ fn cut_one(mut candidate: Candidate, balls: &[f64], place: usize, count: usize) 
 }
 
 // Cost: one turn for each ball, until the box is empty along the first channel; a root for each channel
-// along which the ball reaches past the rest of the box.
+// along which an end of the box lies in the ball, or nearly so.
 fn cut_two(mut candidate: Candidate, balls: &[f64], place: usize, count: usize) -> Candidate
     requires { ⌜ (place + 192 ≤ length (now balls)) × (count ≤ 64) ⌝ }
     ensures { λ r. ⌜ r ≡ cutTo (cutBy 2) (held (now (balls .entry)) place count) candidate count ⌝ }
