@@ -4,3 +4,4 @@ pub mod Outcomes
 pub mod Examples
 pub mod AreaLaws
 pub mod RootLaws
+pub mod StayLaws

@@ -12,7 +12,7 @@ use mir.Syntax.{w64}
 use mir.Val.{Fits}
 use Rattle.floats.specs.Numbers.{+0}
 use Rattle.readings.specs.Parts.{part}
-use Rattle.readings.proofs.PartLaws.{tab-at, tab-length, frame-refl, frame-trans}
+use Rattle.readings.proofs.PartLaws.{part-at, part-front, tab-at, tab-length, frame-refl, frame-wide, frame-trans}
 use Rattle.candidate.specs.declared.Candidate.{Candidate}
 use Rattle.candidate.specs.declared.Ball.{Ball}
 use Rattle.candidate.specs.Boxes.{ballOf, restrict, isDominated}
@@ -21,10 +21,11 @@ use Rattle.candidate.specs.Cuts.{cutIn}
 use Rattle.functional.specs.declared.Plan.{Plan}
 use Rattle.functional.specs.declared.Facing.{Facing}
 use Rattle.functional.specs.Functional.{Living, besides, facing, outerBall, innerBall, livingAt, lostTo, restricted, cutBack, winnersTo, rangeBox, born, joinedBy, joinOf}
-use Rattle.functional.specs.Held.{task, slotAt, boxAt, facingAt, ballFloats, putBox, putFacing, Mapped, Balls, lostBy, livedAt, lived, BallsOf, Sane, Stored, survivorsTo, Narrowed, Placed, Wide, bornFrom, Borne, Joins}
+use Rattle.functional.specs.Held.{task, slotAt, boxAt, facingAt, ballFloats, putBox, putFacing, Mapped, Balls, lostBy, livedAt, lived, BallsOf, Sane, narrowedAt, Remarked, Stored, survivorsTo, Narrowed, Placed, Wide, bornFrom, Borne, Joins}
 use Rattle.functional.proofs.SlotLaws.{slot-long, box-put, balls-beside-box, facing-put, box-beside-facing, balls-beside-facing}
 use Rattle.functional.proofs.BallLaws.{balls-cut}
 use Rattle.functional.proofs.BoxLaws.{box-by-numbers, box-wide, restrict-wide, cut-wide}
+use Rattle.functional.proofs.MarkLaws.{unmarked-balls, few-unmarked}
 use Rattle.functional.proofs.NarrowLaws.{stored-from, stored-living, stored-sane, joined-gone, joined-stays, indices-frame}
 
 -- ---- the candidates that live are within the pool and the definition's bounds
@@ -75,7 +76,7 @@ pub borne-stored : (q : Plan) (x z area : List Float) (ix iz : List ℕ) (j n b 
     → Borne q x z ix iz j (bornFrom q area n b) n (j + 1)
 borne-stored q x z area ix iz j n b w cut e f k wide p g room long few =
     let i : iz ≡ _ = rw g at (p .indices) in
-    let s = stored-from x (p .between) z area ix iz (q .n + 1) j 0 b n cut area (p .balls) (λ i h. refl) k (p .box) i (rw f (born-wide q area n b wide)) room long few in
+    let s = stored-from x (p .between) z area ix iz (q .n + 1) j 0 b n n cut area (p .balls) (λ i h. refl) k (unmarked-balls n (omega (arith, k .few))) (λ m. absurd (few-unmarked n (k .few) m)) (p .box) i (rw f (born-wide q area n b wide)) room long few in
     record {
       gone = λ h. absurd (true≢false (sym h ∙ e));
       counted = λ _. refl;
@@ -97,9 +98,9 @@ twice true c v r = refl
 twice false c v r = refl
 
 -- ---- what becomes of the others
-module _ (run : List Float) (q : Plan) (f x y z : List Float) (ix : List ℕ) (count b : ℕ) (room : 200 * count ≤ length x)
+module _ (run : List Float) (q : Plan) (f x y z : List Float) (ix iy : List ℕ) (count b : ℕ) (room : 200 * count ≤ length x) (few : count ≤ q .n)
     (faced : Mapped (λ i slot. putFacing slot (facing (task run q) f (getD ix (q .n + 1 + i) 0) b)) x y count)
-    (narrowed : Mapped (λ i slot. putBox slot (restrict (q .channels) (outerBall (facingAt slot)) (boxAt slot))) y z count) where
+    (narrowed : Mapped (λ i slot. putBox slot (narrowedAt (q .channels) slot)) y z count) (words : Remarked (q .channels) y ix iy (q .n + 1) count) where
   abbrev living : List Living
   living = lived (q .channels) x ix (q .n + 1) count
 
@@ -128,38 +129,54 @@ module _ (run : List Float) (q : Plan) (f x y z : List Float) (ix : List ℕ) (c
   lost-is (suc j) h = ap₂ loseInside (ap (λ (v : Facing). meant (q .channels) (innerBall v)) (face-is j h) ∙ meant-inner (livingAt living j .tau)) (lost-is j (le-of-lt h))
 
   -- each candidate restricted
-  box-is : (j : ℕ) → j < count → boxAt (slotAt z j) ≡ restrict (q .channels) (outerBall (facing (task run q) f (livingAt living j .tau) b)) (boxAt (slotAt x j))
-  box-is j h =
+  box-still : (j : ℕ) → j < count → boxAt (slotAt y j) ≡ boxAt (slotAt x j)
+  box-still j h = ap boxAt (faced .done j h) ∙ box-beside-facing (slotAt x j) _
+
+  box-narrowed : (j : ℕ) → j < count → boxAt (slotAt z j) ≡ narrowedAt (q .channels) (slotAt y j)
+  unfolding narrowedAt
+  box-narrowed j h =
       let long : length (slotAt y j) ≡ 200 = slot-long y j (rw (faced .long) (omega arith)) in
-      let same : boxAt (slotAt y j) ≡ boxAt (slotAt x j) = ap boxAt (faced .done j h) ∙ box-beside-facing (slotAt x j) _ in
-      ap boxAt (narrowed .done j h)
-      ∙ box-put (slotAt y j) _ long
-      ∙ box-by-numbers _ (restrict-wide (q .channels) _ _ (box-wide (slotAt y j)))
-      ∙ ap₂ (λ (v : Facing) (c : Candidate). restrict (q .channels) (outerBall v) c) (face-is j h) same
+      ap boxAt (narrowed .done j h) ∙ box-put (slotAt y j) _ long ∙ box-by-numbers _ (restrict-wide (q .channels) _ _ (box-wide (slotAt y j)))
+
+  box-is : (j : ℕ) → j < count → boxAt (slotAt z j) ≡ restrict (q .channels) (outerBall (facing (task run q) f (livingAt living j .tau) b)) (boxAt (slotAt x j))
+  unfolding narrowedAt
+  box-is j h = box-narrowed j h ∙ ap₂ (λ (v : Facing) (c : Candidate). restrict (q .channels) (outerBall v) c) (face-is j h) (box-still j h)
+
+  tau-is : (j : ℕ) → j < count → getD iy (q .n + 1 + j) 0 ≡ getD ix (q .n + 1 + j) 0
+  tau-is j h =
+      let w = q .n + 1 in
+      part-at iy w w j 0 (omega arith) ∙ ap (λ (l : List ℕ). getD l j 0) (part-front w w (words .frame) (omega arith)) ∙ sym (part-at ix w w j 0 (omega arith))
 
   balls-are : (j : ℕ) → j < count → ballFloats (slotAt z j) ≡ ballFloats (slotAt x j)
   balls-are j h = ap ballFloats (narrowed .done j h) ∙ balls-beside-box (slotAt y j) _ ∙ ap ballFloats (faced .done j h) ∙ balls-beside-facing (slotAt x j) _
 
-  parts : (j : ℕ) → j < count → livedAt (q .channels) z ix (q .n + 1) j ≡ restricted (task run q) f b (livingAt living j)
+  parts : (j : ℕ) → j < count → livedAt (q .channels) z iy (q .n + 1) j ≡ restricted (task run q) f b (livingAt living j)
   unfolding restricted livedAt
   parts j h =
       let still = living-is j h in
-      rw (box-is j h, balls-are j h, still) refl
+      let number = words .done j h .balls in
+      rw (box-is j h, balls-are j h, tau-is j h, number, still) refl
 
-  sane-at : (j : ℕ) → j < count → BallsOf (q .channels) x ix (q .n + 1) j → BallsOf (q .channels) z ix (q .n + 1) j
-  unfolding BallsOf livedAt
-  sane-at j h k = rw (balls-are j h) k
+  -- a box that is still marked is the one that it was
+  sane-at : (j : ℕ) → j < count → BallsOf (q .channels) x ix (q .n + 1) j → BallsOf (q .channels) z iy (q .n + 1) j
+  unfolding BallsOf
+  sane-at j h k =
+      let r = words .done j h in
+      record {
+        balls = rw (balls-are j h, r .balls) (k .balls);
+        uncut = λ m. let t = r .stays m in rw (balls-are j h, r .balls, box-narrowed j h ∙ t .1 ∙ box-still j h) (k .uncut (t .0));
+      }
 
-  restricted-is : (j : ℕ) → j < count → livingAt (lived (q .channels) z ix (q .n + 1) count) j ≡ restricted (task run q) f b (livingAt living j)
+  restricted-is : (j : ℕ) → j < count → livingAt (lived (q .channels) z iy (q .n + 1) count) j ≡ restricted (task run q) f b (livingAt living j)
   unfolding lived
-  restricted-is j h = tab-at (livedAt (q .channels) z ix (q .n + 1)) count j _ h ∙ parts j h
+  restricted-is j h = tab-at (livedAt (q .channels) z iy (q .n + 1)) count j _ h ∙ parts j h
 
-  pub winners-are : (j : ℕ) → j ≤ count → survivorsTo (q .channels) (lived (q .channels) z ix (q .n + 1) count) j ≡ winnersTo (task run q) f b living j
+  pub winners-are : (j : ℕ) → j ≤ count → survivorsTo (q .channels) (lived (q .channels) z iy (q .n + 1) count) j ≡ winnersTo (task run q) f b living j
   unfolding survivorsTo winnersTo joinedBy
   winners-are zero h = refl
   winners-are (suc j) h = ap₂ (λ (c : Living) (l : List Living). joinedBy (q .channels) (cutBack (q .channels) c) l) (restricted-is j h) (winners-are j (le-of-lt h))
 
-  pub sane-still : Sane (q .channels) x ix (q .n + 1) count → Sane (q .channels) z ix (q .n + 1) count
+  pub sane-still : Sane (q .channels) x ix (q .n + 1) count → Sane (q .channels) z iy (q .n + 1) count
   sane-still s = record { each = λ j h. sane-at j h (s .each j h) }
 
 -- ---- together
@@ -205,22 +222,22 @@ borne-few {q} {kept = kept} {c = c} {r = r} t = go (isDominated (q .channels) (c
     go true d = omega (arith, t .gone d .0)
     go false d = omega (arith, t .counted d)
 
-pub joins : (run : List Float) (q : Plan) (floats x y z u v area : List Float) (ix iy iz : List ℕ) (count b balls kept r : ℕ) → 200 * count ≤ length x → count ≤ q .n → q .range ≡ rangeBox (task run q)
+pub joins : (run : List Float) (q : Plan) (floats x y z u v area : List Float) (ix im iy iz : List ℕ) (count b balls kept r : ℕ) → 200 * count ≤ length x → count ≤ q .n → q .range ≡ rangeBox (task run q)
     → Mapped (λ i slot. putFacing slot (facing (task run q) (part floats (q .f) (q .n + 1)) (getD ix (q .n + 1 + i) 0) b)) x y count
     → Balls (q .channels) area balls (lostBy (q .channels) (λ j. innerBall (facingAt (slotAt y j))) count)
-    → Mapped (λ i slot. putBox slot (restrict (q .channels) (outerBall (facingAt slot)) (boxAt slot))) y z count
-    → Narrowed (q .channels) z u ix iy (q .n + 1) count count kept
+    → Mapped (λ i slot. putBox slot (narrowedAt (q .channels) slot)) y z count → Remarked (q .channels) y ix im (q .n + 1) count
+    → Narrowed (q .channels) z u im iy (q .n + 1) count count kept
     → Borne q u v iy iz kept (bornFrom q area balls b) balls r
     → Joins run q floats x v ix iz count b r
 unfolding joinOf
-joins run q floats x y z u v area ix iy iz count b balls kept r room few range faced lost narrowed nar t =
+joins run q floats x y z u v area ix im iy iz count b balls kept r room few range faced lost narrowed words nar t =
     let k = task run q in
     let f = part floats (q .f) (q .n + 1) in
     let l = lived (q .channels) x ix (q .n + 1) count in
     let c = bornFrom q area balls b in
     let long : length l ≡ count = lived-long (q .channels) x ix (q .n + 1) count in
-    let win : lived (q .channels) u iy (q .n + 1) kept ≡ winnersTo k f b l count = nar .living ∙ winners-are run q f x y z ix count b room faced narrowed count (omega arith) in
-    let new : c ≡ born k b (lostTo k f b l count) = born-is run q area balls b _ range (lost .list ∙ lost-is run q f x y z ix count b room faced narrowed count (omega arith)) in
+    let win : lived (q .channels) u iy (q .n + 1) kept ≡ winnersTo k f b l count = nar .living ∙ winners-are run q f x y z ix im count b room few faced narrowed words count (omega arith) in
+    let new : c ≡ born k b (lostTo k f b l count) = born-is run q area balls b _ range (lost .list ∙ lost-is run q f x y z ix im count b room few faced narrowed words count (omega arith)) in
     let whole : joinedBy (q .channels) c (winnersTo k f b l count) ≡ joinedBy (q .channels) (born k b (lostTo k f b l (length l))) (winnersTo k f b l (length l)) =
     ap (λ (d : Living). joinedBy (q .channels) d (winnersTo k f b l count)) new ∙ ap (λ (n : ℕ). joinedBy (q .channels) (born k b (lostTo k f b l n)) (winnersTo k f b l n)) (sym long) in
     let small = nar .few in
@@ -228,6 +245,6 @@ joins run q floats x y z u v area ix iy iz count b balls kept r room few range f
       counted = joined-length (q .channels) c (winnersTo k f b l count) kept r (sym (ap length win) ∙ lived-long (q .channels) u iy (q .n + 1) kept) (λ d. t .gone d .0) (t .counted) ∙ ap length whole;
       living = λ m. borne-living (winnersTo k f b l count) t win (omega arith) m ∙ whole;
       sane = λ m. borne-sane t (nar .sane) (omega arith) m;
-      frame = frame-trans (nar .frame) (t .frame);
+      frame = frame-trans (frame-trans (frame-wide (q .n + 1) (2 * (q .n + 1)) (words .frame) (omega arith) (omega arith)) (nar .frame)) (t .frame);
       few = omega (arith, borne-few t);
     }

@@ -5,6 +5,7 @@ pub mod SlotLaws
 pub mod FaceLaws
 pub mod BallLaws
 pub mod BoxLaws
+pub mod MarkLaws
 pub mod NarrowLaws
 pub mod BirthLaws
 pub mod StepLaws

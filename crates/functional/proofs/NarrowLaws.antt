@@ -1,6 +1,6 @@
 -- Laws of the living candidates in their slots: one stored, one more looked at, and those that stay as the definition says. Assumes nothing.
 use Prim.Native.Nat.{ℕ, suc, _+_, _-_, _*_, _≤_, _<_}
-use mathlib.Core.Bool.{Bool, true, false, true≢false}
+use mathlib.Core.Bool.{Bool, true, false, cond, true≢false}
 use mathlib.Core.Path.{_≡_, refl, sym, ap, ap₂, _∙_, subst}
 use mathlib.Core.List.{List, [], _∷_, _++_}
 use native.Mathlib.Omega.{arith}
@@ -15,13 +15,14 @@ use Rattle.readings.proofs.PartLaws.{tab-same, tab-at, tab-more, frame-refl, fr
 use Rattle.candidate.specs.declared.Candidate.{Candidate}
 use Rattle.candidate.specs.declared.Ball.{Ball}
 use Rattle.candidate.specs.Boxes.{isDominated}
-use Rattle.candidate.specs.Balls.{heldAt}
-use Rattle.candidate.specs.Cuts.{cutIn}
+use Rattle.candidate.specs.Balls.{heldAt, ballsAt}
+use Rattle.candidate.specs.Cuts.{cutLosing, cutIn}
 use Rattle.functional.specs.Functional.{Living, livingAt, cutBack, joinedBy}
-use Rattle.functional.specs.Held.{slotAt, boxAt, ballFloats, putBox, Put, Balled, Balls, livedAt, lived, BallsOf, Sane, putIndices, Stored, Settled, survivorsTo, Narrowed, Wide}
+use Rattle.functional.specs.Held.{slotAt, boxAt, ballFloats, putBox, Put, Balled, Balls, ballsIn, isMarked, livedAt, lived, Kept, BallsOf, Sane, SameBox, putIndices, Stored, Settled, survivorsTo, Narrowed, Wide}
 use Rattle.functional.proofs.SlotLaws.{slot-long, slot-before, slot-after, box-put, balls-beside-box, ball-in-pool}
 use Rattle.functional.proofs.BallLaws.{balls-kept, slot-cut}
 use Rattle.functional.proofs.BoxLaws.{box-by-numbers, cut-wide, box-wide}
+use Rattle.functional.proofs.MarkLaws.{unmarked-balls, few-unmarked, marked-balls, same-boxes}
 
 pub balled-here : (pool : List Float) (to j place count : ℕ) → to ≡ j → place ≡ 200 * j + 8 → count ≤ 64 → Balled pool pool to pool place count
 balled-here pool to j place count e f h = record { balls = λ i l. ball-in-pool pool to i place (omega arith) (omega arith); box = refl; frame = frame-refl pool (200 * to) 200 }
@@ -52,19 +53,19 @@ living-eq : {t u : ℕ} {b c : Candidate} {l m : List Ball} → t ≡ u → b �
 living-eq p q r = λ i. record { tau = p i; box = q i; losing = r i }
 
 -- its balls come from an area that holds them, its box and indices are put beside them
-pub stored-from : {channels : ℕ} (x y z from : List Float) (ix ix′ : List ℕ) (w j place tau n : ℕ) (cut : Candidate) (area : List Float) {bs : List Ball} → Balled x y j from place n
-    → ((i : ℕ) → i < n → heldAt from place i ≡ heldAt area 0 i) → Balls channels area n bs → Put y z j (putBox (slotAt y j) cut) → ix′ ≡ putIndices ix w j tau n
-    → Wide cut → 200 * j + 200 ≤ length x → 3 * w ≤ length ix → j < w
-    → Stored channels x z ix ix′ w j (record { tau = tau; box = cut; losing = bs }) n
+pub stored-from : {channels : ℕ} (x y z from : List Float) (ix ix′ : List ℕ) (w j place tau n word : ℕ) (cut : Candidate) (area : List Float) {bs : List Ball} → Balled x y j from place n
+    → ((i : ℕ) → i < n → heldAt from place i ≡ heldAt area 0 i) → Balls channels area n bs → ballsIn word ≡ n → (isMarked word ≡ true → cutLosing channels bs cut ≡ cut)
+    → Put y z j (putBox (slotAt y j) cut) → ix′ ≡ putIndices ix w j tau word → Wide cut → 200 * j + 200 ≤ length x → 3 * w ≤ length ix → j < w
+    → Stored channels x z ix ix′ w j (record { tau = tau; box = cut; losing = bs }) word
 unfolding livedAt BallsOf
-stored-from {channels} x y z from ix ix′ w j place tau n cut area {bs} b same k p e wide room long few =
-    let count : getD ix′ (2 * w + j) 0 ≡ n = rw e (indices-count ix w j tau n long few) in
+stored-from {channels} x y z from ix ix′ w j place tau n word cut area {bs} b same k number uncut p e wide room long few =
+    let here : getD ix′ (2 * w + j) 0 ≡ word = rw e (indices-count ix w j tau word long few) in
     let balls : ballFloats (slotAt z j) ≡ ballFloats (slotAt y j) = ap ballFloats (p .here) ∙ balls-beside-box (slotAt y j) cut in
     let held : Balls channels (ballFloats (slotAt z j)) n bs = balls-kept (ballFloats (slotAt z j)) (λ i h. ap (λ (l : List Float). heldAt l 0 i) balls ∙ b .balls i h ∙ same i h) k in
     let box : boxAt (slotAt z j) ≡ cut = ap boxAt (p .here) ∙ box-put (slotAt y j) cut (slot-long y j (rw (b .frame .long) room)) ∙ box-by-numbers cut wide in
     record {
-      living = living-eq (rw e (indices-tau ix w j tau n long few)) box (rw count (held .list));
-      sane = rw count (record { list = refl; few = held .few; rooted = held .rooted });
+      living = living-eq (rw e (indices-tau ix w j tau word long few)) box (rw (here, number) (held .list));
+      sane = rw here (record { balls = rw number (record { list = refl; few = held .few; rooted = held .rooted }); uncut = λ m. rw (number, held .list, box) (uncut m) });
       frame = frame-trans (b .frame) (p .frame);
       indices = e;
     }
@@ -177,53 +178,74 @@ narrowed-stays {channels} {x} {y} {z} {ix} {iy} {iz} {w} {count} {j} {kept} n r 
       frame = rw (s .indices) (indices-frame iy w kept (c .tau) n room (r .frame));
     }
 
-pub narrowed-more : {channels : ℕ} {x y z : List Float} {ix iy iz : List ℕ} {w count j kept r : ℕ} (n : ℕ) → Narrowed channels x y ix iy w count j kept → j < count → count ≤ w
-    → Settled channels y z iy iz w kept (cutBack channels (livedAt channels y iy w j)) n r → Narrowed channels x z ix iz w count (j + 1) r
-narrowed-more {channels} {x} {y} {z} {ix} {iy} {iz} {w} {count} {j} {kept} {r} n v h l s = side (isDominated channels (cutBack channels (livedAt channels y iy w j) .box)) refl
+pub narrowed-more : {channels : ℕ} {x y z : List Float} {ix iy iz : List ℕ} {w count j kept r : ℕ} → Narrowed channels x y ix iy w count j kept → j < count → count ≤ w
+    → Settled channels y z iy iz w kept (cutBack channels (livedAt channels y iy w j)) r → Narrowed channels x z ix iz w count (j + 1) r
+narrowed-more {channels} {x} {y} {z} {ix} {iy} {iz} {w} {count} {j} {kept} {r} v h l s = side (isDominated channels (cutBack channels (livedAt channels y iy w j) .box)) refl
   where
     side : (b : Bool) → isDominated channels (cutBack channels (livedAt channels y iy w j) .box) ≡ b → Narrowed channels x z ix iz w count (j + 1) r
     side true e = let g = s .gone e in rw (g .0, g .1 .pool, g .1 .indices) (narrowed-gone v h l e)
-    side false e = let g = s .stays e in rw (g .0) (narrowed-stays n v h l e (g .1))
+    side false e = let g = s .stays e in rw (g .0) (narrowed-stays (g .1 .0) v h l e (g .1 .1))
 
 -- what `settle` leaves: nothing done, or the candidate stored
-pub settled-gone : {channels : ℕ} {x : List Float} {ix : List ℕ} {w j : ℕ} {c : Living} {n : ℕ} → isDominated channels (c .box) ≡ true → Settled channels x x ix ix w j c n j
+pub settled-gone : {channels : ℕ} {x : List Float} {ix : List ℕ} {w j : ℕ} {c : Living} → isDominated channels (c .box) ≡ true → Settled channels x x ix ix w j c j
 settled-gone e = record { gone = λ _. (refl, record { pool = refl; indices = refl }); stays = λ f. absurd (true≢false (sym e ∙ f)) }
 
-pub settled-stays : {channels : ℕ} {x z : List Float} {ix iz : List ℕ} {w j : ℕ} {c : Living} {n r : ℕ} → isDominated channels (c .box) ≡ false → r ≡ j + 1 → Stored channels x z ix iz w j c n
-    → Settled channels x z ix iz w j c n r
-settled-stays e q s = record { gone = λ f. absurd (true≢false (sym f ∙ e)); stays = λ _. (q, s) }
+pub settled-stays : {channels : ℕ} {x z : List Float} {ix iz : List ℕ} {w j : ℕ} {c : Living} {word r : ℕ} → isDominated channels (c .box) ≡ false → r ≡ j + 1 → Stored channels x z ix iz w j c word
+    → Settled channels x z ix iz w j c r
+settled-stays {word = word} e q s = record { gone = λ f. absurd (true≢false (sym f ∙ e)); stays = λ _. (q, (word, s)) }
 
 -- ---- what `settle` works out
-pub settle-cut : (channels : ℕ) (pool : List Float) (ix : List ℕ) (w j place balls : ℕ) (before cut : Candidate) → BallsOf channels pool ix w j → before ≡ boxAt (slotAt pool j) → balls ≡ getD ix (2 * w + j) 0
-    → place ≡ 200 * j + 8 → 200 * j + 200 ≤ length pool → cut ≡ cutIn channels pool place balls before → cut ≡ cutBack channels (livedAt channels pool ix w j) .box
-unfolding BallsOf cutBack livedAt
-settle-cut channels pool ix w j place balls before cut k e f g h q = q ∙ (rw (e, f) (slot-cut pool j (getD ix (2 * w + j) 0) place (boxAt (slotAt pool j)) k g (omega arith)))
+pub balls-cut-in : (channels : ℕ) (pool : List Float) (j word place : ℕ) (x : Candidate) → Kept channels (slotAt pool j) word → word ≤ 127 → place ≡ 200 * j + 8 → 200 * j + 200 ≤ length pool
+    → cutIn channels pool place word x ≡ cutLosing channels (ballsAt channels (ballFloats (slotAt pool j)) 0 (ballsIn word)) x
+balls-cut-in channels pool j word place x k low e h =
+    slot-cut pool j word place x (subst (λ (n : ℕ). Balls channels (ballFloats (slotAt pool j)) n (ballsAt channels (ballFloats (slotAt pool j)) 0 (ballsIn word))) (unmarked-balls word low) (k .balls)) e (omega arith)
+
+pub settle-cut : (channels : ℕ) (pool : List Float) (ix : List ℕ) (w j word : ℕ) (before cut : Candidate) → before ≡ boxAt (slotAt pool j) → word ≡ getD ix (2 * w + j) 0
+    → cut ≡ cutLosing channels (ballsAt channels (ballFloats (slotAt pool j)) 0 (ballsIn word)) before → cut ≡ cutBack channels (livedAt channels pool ix w j) .box
+unfolding cutBack livedAt
+settle-cut channels pool ix w j word before cut e f q = q ∙ (rw (e, f) refl)
 
 pub settle-wide : (channels : ℕ) (pool : List Float) (ix : List ℕ) (w j : ℕ) → Wide (cutBack channels (livedAt channels pool ix w j) .box)
 unfolding cutBack livedAt
 settle-wide channels pool ix w j = cut-wide channels _ _ (box-wide (slotAt pool j))
 
 balls-of : (channels : ℕ) (x : List Float) (ix : List ℕ) (w j : ℕ) → BallsOf channels x ix w j
-    → Balls channels (ballFloats (slotAt x j)) (getD ix (2 * w + j) 0) (cutBack channels (livedAt channels x ix w j) .losing)
-unfolding BallsOf cutBack
-balls-of channels x ix w j v = v
+    → Balls channels (ballFloats (slotAt x j)) (ballsIn (getD ix (2 * w + j) 0)) (cutBack channels (livedAt channels x ix w j) .losing)
+unfolding BallsOf cutBack livedAt
+balls-of channels x ix w j v = v .balls
+
+-- balls that left a box as it was cut nothing from what they left
+cut-again : (channels : ℕ) (x : List Float) (ix : List ℕ) (w j : ℕ) (before cut : Candidate) → before ≡ boxAt (slotAt x j) → cut ≡ cutBack channels (livedAt channels x ix w j) .box → SameBox before cut
+    → cutLosing channels (cutBack channels (livedAt channels x ix w j) .losing) cut ≡ cut
+unfolding cutBack livedAt
+cut-again channels x ix w j before cut e q s =
+    let same : before ≡ cut = same-boxes before cut (rw e (box-wide (slotAt x j))) (rw q (settle-wide channels x ix w j)) s in
+    ap (cutLosing channels _) (sym same ∙ e) ∙ sym q
 
 cut-by-parts : (channels : ℕ) (x : List Float) (ix : List ℕ) (w j tau : ℕ) (cut : Candidate) → tau ≡ getD ix (w + j) 0 → cut ≡ cutBack channels (livedAt channels x ix w j) .box
     → _≡_ {A = Living} (record { tau = tau; box = cut; losing = cutBack channels (livedAt channels x ix w j) .losing }) (cutBack channels (livedAt channels x ix w j))
 unfolding cutBack livedAt
 cut-by-parts channels x ix w j tau cut p q = living-eq p q refl
 
-pub settle-stored : (channels : ℕ) (x y z : List Float) (ix iz : List ℕ) (w j kept tau n place : ℕ) (cut : Candidate) → BallsOf channels x ix w j → cut ≡ cutBack channels (livedAt channels x ix w j) .box
-    → tau ≡ getD ix (w + j) 0 → n ≡ getD ix (2 * w + j) 0 → Balled x y kept x place n → place ≡ 200 * j + 8 → Put y z kept (putBox (slotAt y kept) cut) → iz ≡ putIndices ix w kept tau n
-    → 200 * kept + 200 ≤ length x → 3 * w ≤ length ix → kept < w → Stored channels x z ix iz w kept (cutBack channels (livedAt channels x ix w j)) (getD ix (2 * w + j) 0)
-settle-stored channels x y z ix iz w j kept tau n place cut k e f g b h p q room long few =
+pub settle-stored : (channels : ℕ) (x y z : List Float) (ix iz : List ℕ) (w j kept tau n word place : ℕ) (before cut : Candidate) (same : Bool) → BallsOf channels x ix w j → before ≡ boxAt (slotAt x j)
+    → cut ≡ cutBack channels (livedAt channels x ix w j) .box → tau ≡ getD ix (w + j) 0 → n ≡ ballsIn (getD ix (2 * w + j) 0) → (same ≡ true → SameBox before cut) → word ≡ cond same (n + 128) n
+    → Balled x y kept x place n → place ≡ 200 * j + 8 → Put y z kept (putBox (slotAt y kept) cut) → iz ≡ putIndices ix w kept tau word
+    → 200 * kept + 200 ≤ length x → 3 * w ≤ length ix → kept < w → Stored channels x z ix iz w kept (cutBack channels (livedAt channels x ix w j)) word
+settle-stored channels x y z ix iz w j kept tau n word place before cut same k d e f g u v b h p q room long few =
     let c = cutBack channels (livedAt channels x ix w j) in
     let held : Balls channels (ballFloats (slotAt x j)) n (c .losing) = rw g (balls-of channels x ix w j k) in
-    let s = stored-from x y z x ix iz w kept place tau n cut (ballFloats (slotAt x j)) b (λ i l. sym (ball-in-pool x j i place h (omega (arith, held .few)))) held p q (rw e (settle-wide channels x ix w j)) room long few in
-    let same : _≡_ {A = Living} (record { tau = tau; box = cut; losing = c .losing }) c = cut-by-parts channels x ix w j tau cut f e in
-    subst (λ (m : ℕ). Stored channels x z ix iz w kept c m) g (subst (λ (d : Living). Stored channels x z ix iz w kept d n) same s)
+    let s =
+    stored-from x y z x ix iz w kept place tau n word cut (ballFloats (slotAt x j)) b (λ i l. sym (ball-in-pool x j i place h (omega (arith, held .few)))) held (rw v (marked-balls n same (held .few)))
+    (λ m. uncut (held .few) same u (rw v at m)) p q (rw e (settle-wide channels x ix w j)) room long few in
+    let is : _≡_ {A = Living} (record { tau = tau; box = cut; losing = c .losing }) c = cut-by-parts channels x ix w j tau cut f e in
+    subst (λ (l : Living). Stored channels x z ix iz w kept l word) is s
+  where
+    uncut : n ≤ 64 → (t : Bool) → (t ≡ true → SameBox before cut) → isMarked (cond t (n + 128) n) ≡ true
+        → cutLosing channels (cutBack channels (livedAt channels x ix w j) .losing) cut ≡ cut
+    uncut l true m i = cut-again channels x ix w j before cut d e (m refl)
+    uncut l false m i = absurd (few-unmarked n l i)
 
-pub balls-few : (channels : ℕ) (x : List Float) (ix : List ℕ) (w j : ℕ) → BallsOf channels x ix w j → getD ix (2 * w + j) 0 ≤ 64
+pub balls-few : (channels : ℕ) (x : List Float) (ix : List ℕ) (w j : ℕ) → BallsOf channels x ix w j → ballsIn (getD ix (2 * w + j) 0) ≤ 64
 balls-few channels x ix w j v = balls-of channels x ix w j v .few
 
 pub narrowed-balls : {channels : ℕ} {x y : List Float} {ix iy : List ℕ} {w count j kept : ℕ} → Narrowed channels x y ix iy w count j kept → Sane channels x ix w count → j < count → count ≤ w → BallsOf channels y iy w j

@@ -24,9 +24,10 @@ use Rattle.candidate.specs.Balls.{ballsAt}
 use Rattle.functional.specs.declared.Plan.{Plan}
 use Rattle.functional.specs.Functional.{Task, besides, rangeAlong, rangeBox, stateAfter}
 use Rattle.functional.specs.Partitioned.{fitsTask, taskFits, slotsSuffice, indicesAfter, Partitioned}
-use Rattle.functional.specs.Held.{Room, task, slotAt, boxAt, ballFloats, putBox, Put, livedAt, lived, BallsOf, Sane, Holds, Searched, Ran}
+use Rattle.functional.specs.Held.{Room, task, slotAt, boxAt, ballFloats, putBox, Put, ballsIn, livedAt, lived, BallsOf, Sane, Holds, Searched, Ran}
 use Rattle.functional.proofs.SlotLaws.{slot-long, box-put}
 use Rattle.functional.proofs.BallLaws.{balls-none}
+use Rattle.functional.proofs.MarkLaws.{few-unmarked}
 use Rattle.functional.proofs.BoxLaws.{range-wide, box-by-numbers}
 use Rattle.functional.proofs.PeakLaws.{slots-too-few}
 
@@ -63,15 +64,15 @@ plan-room penalty run n k m lf li lp f slots range one two s r e g =
 -- ---- how the areas begin
 first-living : (channels : ℕ) (pool : List Float) (ix : List ℕ) (w : ℕ) (x : Candidate) → getD ix (w + 0) 0 ≡ 0 → getD ix (2 * w + 0) 0 ≡ 0 → boxAt (slotAt pool 0) ≡ x
     → lived channels pool ix w 1 ≡ record { tau = 0; box = x; losing = [] } ∷ []
-unfolding lived livedAt tab ballsAt
+unfolding lived livedAt ballsIn tab ballsAt
 first-living channels pool ix w x p q r = rw (p, q, r) refl
 
 first-sane : (channels : ℕ) (pool : List Float) (ix : List ℕ) (w : ℕ) → getD ix (2 * w + 0) 0 ≡ 0 → Sane channels pool ix w 1
-unfolding BallsOf livedAt ballsAt tab
+unfolding BallsOf ballsIn ballsAt tab
 first-sane channels pool ix w e = record { each = λ j h. only j h }
   where
     only : (j : ℕ) → j < 1 → BallsOf channels pool ix w j
-    only zero h = rw e (balls-none channels (ballFloats (slotAt pool 0)))
+    only zero h = rw e (record { balls = balls-none channels (ballFloats (slotAt pool 0)); uncut = λ m. absurd (few-unmarked 0 (omega arith) m) })
     only (suc j) h = absurd (none h)
       where
         none : suc j < 1 → ⊥

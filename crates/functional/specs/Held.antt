@@ -1,9 +1,9 @@
 -- How the lent areas hold a state of the search, for the private functions. Definitions only.
-use Prim.Native.Nat.{ℕ, zero, suc, _+_, _-_, _*_, _≤_, _<_}
+use Prim.Native.Nat.{ℕ, zero, suc, _+_, _-_, _*_, _%_, _≤_, _<_}
 use mathlib.Core.Path.{_≡_}
 use mathlib.Core.Bool.{Bool, true, false}
 use mathlib.Core.List.{List, [], _∷_, _++_}
-use lib.Dec.{leb}
+use lib.Dec.{leb, ltb}
 use lib.ListN.{length, getD, set, drop}
 use lib.Ieee.{Float, nan}
 use Rattle.floats.specs.Numbers.{_+ᶠ_, _-ᶠ_, _*ᶠ_, _/ᶠ_, +0, whole, ratio}
@@ -15,6 +15,7 @@ use Rattle.candidate.specs.declared.Candidate.{Candidate}
 use Rattle.candidate.specs.declared.Ball.{Ball}
 use Rattle.candidate.specs.Boxes.{at, ballOf, restrict, isDominated}
 use Rattle.candidate.specs.Balls.{heldAt, ballsAt, meant, Rooted, loseInside}
+use Rattle.candidate.specs.Cuts.{cutLosing}
 use Rattle.functional.specs.declared.Plan.{Plan}
 use Rattle.functional.specs.declared.Facing.{Facing}
 use Rattle.functional.specs.Functional.{Task, Living, State, price, outerBall, innerBall, livingAt, cutBack, rangeBox, joinedBy, joinOf, stateAfter, functional}
@@ -98,31 +99,65 @@ lostBy channels g (suc j) = loseInside (meant channels (g j)) (lostBy channels g
 
 -- ---- the living candidates
 
+-- the word that a candidate has beside its place: the number of its balls, and 128 more where it is marked
+unfoldable pub ballsIn : ℕ → ℕ
+ballsIn word = word % 128
+
+unfoldable pub isMarked : ℕ → Bool
+isMarked word = ltb 127 word
+
 -- the one that slot j and its two indices stand for
 unfoldable pub livedAt : ℕ → List Float → List ℕ → ℕ → ℕ → Living
 livedAt channels pool ix w j =
-    record { tau = getD ix (w + j) 0; box = boxAt (slotAt pool j); losing = ballsAt channels (ballFloats (slotAt pool j)) 0 (getD ix (2 * w + j) 0) }
+    record { tau = getD ix (w + j) 0; box = boxAt (slotAt pool j); losing = ballsAt channels (ballFloats (slotAt pool j)) 0 (ballsIn (getD ix (2 * w + j) 0)) }
 
 unfoldable pub lived : ℕ → List Float → List ℕ → ℕ → ℕ → List Living
 lived channels pool ix w count = tab (livedAt channels pool ix w) count
 
--- the balls of candidate j: at most 64, and on one channel with their roots
+-- the balls of a slot with its word: at most 64, on one channel with their roots, and where the word is marked they cut nothing from the box
+pub record Kept (channels : ℕ) (slot : List Float) (word : ℕ) : Type 0 where
+  pub balls : Balls channels (ballFloats slot) (ballsIn word) (ballsAt channels (ballFloats slot) 0 (ballsIn word))
+  pub uncut : isMarked word ≡ true → cutLosing channels (ballsAt channels (ballFloats slot) 0 (ballsIn word)) (boxAt slot) ≡ boxAt slot
+
+-- those of candidate j
 unfoldable pub BallsOf : ℕ → List Float → List ℕ → ℕ → ℕ → Type 0
-BallsOf channels pool ix w j = Balls channels (ballFloats (slotAt pool j)) (getD ix (2 * w + j) 0) (livedAt channels pool ix w j .losing)
+BallsOf channels pool ix w j = Kept channels (slotAt pool j) (getD ix (2 * w + j) 0)
 
 pub record Sane (channels : ℕ) (pool : List Float) (ix : List ℕ) (w count : ℕ) : Type 0 where
   pub each : (j : ℕ) → j < count → BallsOf channels pool ix w j
 
+-- two boxes have the same numbers
+pub record SameBox (x y : Candidate) : Type 0 where
+  pub low : at (x .lo) 0 ≡ at (y .lo) 0
+  pub high : at (x .hi) 0 ≡ at (y .hi) 0
+  pub low-beside : at (x .lo) 1 ≡ at (y .lo) 1
+  pub high-beside : at (x .hi) 1 ≡ at (y .hi) 1
+
+-- the box of a slot, narrowed by the ball that it holds
+unfoldable pub narrowedAt : ℕ → List Float → Candidate
+narrowedAt channels slot = restrict channels (outerBall (facingAt slot)) (boxAt slot)
+
+-- the word of a slot whose box is narrowed: as many balls, and still marked only where the box stays
+pub record Remark (channels : ℕ) (slot : List Float) (word word′ : ℕ) : Type 0 where
+  pub balls : ballsIn word′ ≡ ballsIn word
+  pub stays : isMarked word′ ≡ true → (isMarked word ≡ true) × (narrowedAt channels slot ≡ boxAt slot)
+
+-- the words of the first j candidates are those of narrowed boxes, and nothing else was changed
+pub record Remarked (channels : ℕ) (pool : List Float) (ix ix′ : List ℕ) (w j : ℕ) : Type 0 where
+  pub done : (i : ℕ) → i < j → Remark channels (slotAt pool i) (getD ix (2 * w + i) 0) (getD ix′ (2 * w + i) 0)
+  pub rest : (i : ℕ) → j ≤ i → getD ix′ (2 * w + i) 0 ≡ getD ix (2 * w + i) 0
+  pub frame : Frame ix ix′ (2 * w) w
+
 -- the two indices of candidate j
 unfoldable pub putIndices : List ℕ → ℕ → ℕ → ℕ → ℕ → List ℕ
-putIndices ix w j tau balls = set (set ix (w + j) tau) (2 * w + j) balls
+putIndices ix w j tau word = set (set ix (w + j) tau) (2 * w + j) word
 
--- candidate c stands in slot j, and nothing else was changed
-pub record Stored (channels : ℕ) (pool pool′ : List Float) (ix ix′ : List ℕ) (w j : ℕ) (c : Living) (balls : ℕ) : Type 0 where
+-- candidate c stands in slot j, with a word, and nothing else was changed
+pub record Stored (channels : ℕ) (pool pool′ : List Float) (ix ix′ : List ℕ) (w j : ℕ) (c : Living) (word : ℕ) : Type 0 where
   pub living : livedAt channels pool′ ix′ w j ≡ c
   pub sane : BallsOf channels pool′ ix′ w j
   pub frame : Frame pool pool′ (200 * j) 200
-  pub indices : ix′ ≡ putIndices ix w j (c .tau) balls
+  pub indices : ix′ ≡ putIndices ix w j (c .tau) word
 
 -- nothing was changed
 pub record Unchanged (xs xs′ : List Float) (ix ix′ : List ℕ) : Type 0 where
@@ -130,9 +165,9 @@ pub record Unchanged (xs xs′ : List Float) (ix ix′ : List ℕ) : Type 0 wher
   pub indices : ix′ ≡ ix
 
 -- a candidate goes to slot j unless it is dominated
-pub record Settled (channels : ℕ) (pool pool′ : List Float) (ix ix′ : List ℕ) (w j : ℕ) (c : Living) (balls r : ℕ) : Type 0 where
+pub record Settled (channels : ℕ) (pool pool′ : List Float) (ix ix′ : List ℕ) (w j : ℕ) (c : Living) (r : ℕ) : Type 0 where
   pub gone : isDominated channels (c .box) ≡ true → (r ≡ j) × Unchanged pool pool′ ix ix′
-  pub stays : isDominated channels (c .box) ≡ false → (r ≡ j + 1) × Stored channels pool pool′ ix ix′ w j c balls
+  pub stays : isDominated channels (c .box) ≡ false → (r ≡ j + 1) × ((word : ℕ) × Stored channels pool pool′ ix ix′ w j c word)
 
 -- each of the places is below t
 pub record Below (t : ℕ) (ix : List ℕ) (w count : ℕ) : Type 0 where

@@ -78,7 +78,7 @@ pub(crate) fn birth(
     let channels = plan.channels;
     face_all(run, floats, indices, pool, plan, count, b);
     let balls = lose_all(channels, pool, born, count);
-    restrict_all(channels, pool, count);
+    restrict_all(indices, pool, channels, plan.n + 1, count);
     let kept = narrow_all(indices, pool, channels, plan.n + 1, count);
     bear(indices, pool, born, plan, kept, balls, b)
 }

@@ -8,6 +8,7 @@
 mod birth;
 mod faces;
 mod losing;
+mod marks;
 mod narrowing;
 mod partition;
 mod ranges;
@@ -27,7 +28,7 @@ struct Facing {
 }
 
 // What is searched, and where it stands: F at `f` of the floats, after the sums. Of the indices the
-// first n + 1 are the predecessors, the next the living candidates, the next their counts of balls.
+// first n + 1 are the predecessors, the next the living candidates, the next their words.
 struct Plan {
     pub penalty: f64,
     pub n: usize,

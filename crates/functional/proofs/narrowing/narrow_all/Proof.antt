@@ -33,7 +33,7 @@ loop-again : tie.Need-loop-again Inv-loop μ-loop
 loop-again c =
     let l = c .before .before .before .before .before .before .before .before .loop in
     let p = c .before .before .before .before .before .before .before .before .before .before .before .pre in
-    (omega arith, narrowed-more _ (l .inv .1) (c .before .before .before .before .before .before .before .loop-test .taken) (p .1) (c .before .before .before .before .settle .ensures))
+    (omega arith, narrowed-more (l .inv .1) (c .before .before .before .before .before .before .before .loop-test .taken) (p .1) (c .before .before .before .before .settle .ensures))
 
 same-length : tie.Need-same-length Inv-loop μ-loop
 same-length c = c .before .loop .inv .1 .frame .long

@@ -5,7 +5,7 @@ use borrow.Author.Needs.{needs}
 use denote.Ref.{now}
 use Rattle.candidate.specs.Boxes.{isDominated}
 use Rattle.functional.specs.Functional.{cutBack}
-use Rattle.functional.specs.Held.{livedAt}
+use Rattle.functional.specs.Held.{ballsIn, livedAt, BallsOf}
 use Rattle.functional.proofs.NarrowLaws.{settle-cut, settle-stored, settled-gone, settled-stays, balls-few}
 use Rattle.functional.proofs.narrowing.settle.Statement.{statement}
 use Rattle.functional.proofs.narrowing.settle.Tie as tie
@@ -28,25 +28,20 @@ index-at-requires-2 c κs = search needs
 box-at-requires : tie.Need-box-at-requires
 box-at-requires c κs = search needs
 
-mul-cut-losing : tie.Need-mul-cut-losing
-mul-cut-losing c = search needs
-
-add-cut-losing : tie.Need-add-cut-losing
-add-cut-losing c = search needs
-
-cut-losing-requires : tie.Need-cut-losing-requires
-cut-losing-requires c κs = search needs
+cut-box-requires : tie.Need-cut-box-requires
+unfolding BallsOf
+cut-box-requires c κs =
+    let p = c .before .before .before .before .before .before .before .before .before .pre in
+    (p .0, omega arith, rw (c .before .before .before .index-at2 .ensures) (p .5), c .before .box-at .ensures)
 
 is-dominated-requires : tie.Need-is-dominated-requires
 is-dominated-requires c κs = search needs
 
 -- the box that was cut is the definition's
-cut-is : (c : tie.After-is-dominated) → let a = c .before .before .before .before .before .before .before .before .before .before .before .args in
-    c .before .cut-losing .result ≡ cutBack (a .channels) (livedAt (a .channels) (now (a .pool)) (now (a .indices)) (a .w) (a .j)) .box
+cut-is : (c : tie.After-is-dominated) → let a = c .before .before .before .before .before .before .before .before .before .before .before .args in c .before .cut-box .result ≡ cutBack (a .channels) (livedAt (a .channels) (now (a .pool)) (now (a .indices)) (a .w) (a .j)) .box
 cut-is c =
-    let s = c .before .before .before .before .before .before .before .before .before .before .before in
-    let a = s .args in
-    settle-cut (a .channels) (now (a .pool)) (now (a .indices)) (a .w) (a .j) _ _ _ _ (s .pre .5) (c .before .before .before .box-at .ensures) (c .before .before .before .before .before .index-at2 .ensures) refl (s .pre .0) (c .before .cut-losing .ensures)
+    let a = c .before .before .before .before .before .before .before .before .before .before .before .args in
+    settle-cut (a .channels) (now (a .pool)) (now (a .indices)) (a .w) (a .j) _ _ _ (c .before .before .before .box-at .ensures) (c .before .before .before .before .before .index-at2 .ensures) (c .before .cut-box .ensures)
 
 -- and whether anything is left of it
 said : (c : tie.After-is-dominated) → let a = c .before .before .before .before .before .before .before .before .before .before .before .args in
@@ -63,18 +58,29 @@ returns : tie.Need-returns
 returns c = settled-gone (sym (said (c .before)) ∙ c .if1 .taken)
 
 bring-balls-requires : tie.Need-bring-balls-requires
+unfolding ballsIn
 bring-balls-requires c κs =
     let s = c .before .before .before .before .before .before .before .before .before .before .before .before .before in
     let a = s .args in
     let p = s .pre in
     (p .0, omega arith, p .3, rw (c .before .before .before .before .before .before .before .index-at2 .ensures) (balls-few (a .channels) (now (a .pool)) (now (a .indices)) (a .w) (a .j) (p .5)))
 
+same-box-requires : tie.Need-same-box-requires
+same-box-requires c κs = search needs
+
+marked-requires : tie.Need-marked-requires
+unfolding ballsIn
+marked-requires c κs =
+    let s = c .before .before .before .before .before .before .before .before .before .before .before .before .before .before .before .before .before .before .before in
+    let a = s .args in
+    rw (c .before .before .before .before .before .before .before .before .before .before .before .before .before .index-at2 .ensures) (balls-few (a .channels) (now (a .pool)) (now (a .indices)) (a .w) (a .j) (s .pre .5))
+
 store-requires : tie.Need-store-requires
 store-requires c κs = search needs
 
 add-result : tie.Need-add-result
 add-result c =
-    let p = c .before .before .before .before .before .before .before .before .before .before .before .before .before .before .before .before .before .before .before .before .before .before .before .pre in
+    let p = c .before .before .before .before .before .before .before .before .before .before .before .before .before .before .before .before .before .before .before .before .before .before .before .before .before .pre in
     omega (arith, p .1, p .2, p .3)
 
 same-length-3 : tie.Need-same-length-3
@@ -84,13 +90,16 @@ same-length-4 : tie.Need-same-length-4
 same-length-4 c = search needs
 
 returns-2 : tie.Need-returns-2
+unfolding ballsIn
 returns-2 c =
-    let s = c .before .before .before .before .before .before .before .before .before .before .before .before .before .before .before .before .before .before .before .before .before .before .before in
+    let s = c .before .before .before .before .before .before .before .before .before .before .before .before .before .before .before .before .before .before .before .before .before .before .before .before .before in
     let a = s .args in
     let p = s .pre in
-    let d = c .before .before .before .before .before .before .before .before .before .before .before .before in
+    let d = c .before .before .before .before .before .before .before .before .before .before .before .before .before .before in
+    let b = c .before .before .before .before .before .before .before .before .before .before .before .bring-balls in
     let r = c .before .before .before .before .store .ensures in
-    settled-stays (sym (said d) ∙ c .before .before .before .before .before .before .before .before .before .before .before .if1 .left) refl (settle-stored (a .channels) (now (a .pool)) (c .before .before .before .before .before .before .before .before .before .bring-balls .last .0) _ (now (a .indices)) _ (a .w) (a .j) (a .kept) _ _ _ _ (p .5) (cut-is d) (d .before .before .before .before .before .before .before .index-at .ensures) (d .before .before .before .before .before .index-at2 .ensures) (c .before .before .before .before .before .before .before .before .before .bring-balls .ensures) refl (r .0) (r .1) (omega arith) (p .4) (omega arith))
+    settled-stays (sym (said d) ∙ c .before .before .before .before .before .before .before .before .before .before .before .before .before .if1 .left) refl
+    (settle-stored (a .channels) (now (a .pool)) (b .last .0) _ (now (a .indices)) _ (a .w) (a .j) (a .kept) _ _ _ _ _ _ _ (p .5) (d .before .before .before .box-at .ensures) (cut-is d) (d .before .before .before .before .before .before .before .index-at .ensures) (ap ballsIn (d .before .before .before .before .before .index-at2 .ensures)) (c .before .before .before .before .before .before .same-box .ensures) (c .before .before .before .before .before .marked .ensures) (b .ensures) refl (r .0) (r .1) (omega arith) (p .4) (omega arith))
 
 pub settle-spec : {M : Type 1} → statement M
 settle-spec =
@@ -102,14 +111,14 @@ settle-spec =
     add-index-at-2
     index-at-requires-2
     box-at-requires
-    mul-cut-losing
-    add-cut-losing
-    cut-losing-requires
+    cut-box-requires
     is-dominated-requires
     same-length
     same-length-2
     returns
     bring-balls-requires
+    same-box-requires
+    marked-requires
     store-requires
     add-result
     same-length-3

@@ -1,0 +1,47 @@
+use mathlib.Core.Path.{refl}
+use borrow.Author.Needs.{needs}
+use Rattle.candidate.specs.Boxes.{equals}
+use Rattle.candidate.proofs.Candidate.equals.Statement.{statement}
+use Rattle.candidate.proofs.Candidate.equals.Tie as tie
+
+element-copy-out-result : tie.Need-element-copy-out-result
+element-copy-out-result c = search needs
+
+element-copy-out-result-2 : tie.Need-element-copy-out-result-2
+element-copy-out-result-2 c = search needs
+
+element-copy-out-result-3 : tie.Need-element-copy-out-result-3
+element-copy-out-result-3 c = search needs
+
+element-copy-out-result-4 : tie.Need-element-copy-out-result-4
+element-copy-out-result-4 c = search needs
+
+element-copy-out-result-5 : tie.Need-element-copy-out-result-5
+element-copy-out-result-5 c = search needs
+
+element-copy-out-result-6 : tie.Need-element-copy-out-result-6
+element-copy-out-result-6 c = search needs
+
+element-copy-out-result-7 : tie.Need-element-copy-out-result-7
+element-copy-out-result-7 c = search needs
+
+element-copy-out-result-8 : tie.Need-element-copy-out-result-8
+element-copy-out-result-8 c = search needs
+
+returns : tie.Need-returns
+unfolding equals
+returns c = refl
+
+pub equals-spec : {M : Type 1} → statement M
+equals-spec =
+    tie.close
+    (tie.spec
+    element-copy-out-result
+    element-copy-out-result-2
+    element-copy-out-result-3
+    element-copy-out-result-4
+    element-copy-out-result-5
+    element-copy-out-result-6
+    element-copy-out-result-7
+    element-copy-out-result-8
+    returns)
