@@ -1,7 +1,7 @@
 -- A box that `restrict` leaves equal, number by number, it leaves as it was: of a side that shrinks no end equals what it was. Assumes nothing.
 use Prim.Native.Nat.{ℕ, _*_}
 use mathlib.Core.Bool.{Bool, true, false, _&&_, _||_, Bool·beq, cond, false≢true}
-use mathlib.Core.Path.{_≡_, refl, sym, ap, subst, _∙_}
+use mathlib.Core.Path.{_≡_, refl, sym, subst, _∙_}
 use mathlib.Core.List.{[], _∷_}
 use borrow.Author.Tests.{eqb-true}
 use lib.Dec.{T, eqb}

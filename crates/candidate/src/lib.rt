@@ -6,8 +6,9 @@
 // contract names: `specs/Boxes` for the box and the ball that narrows it, `specs/Balls` for the
 // losing balls and how they stand in an area, `specs/Cuts` for what they cut from the box. That in an
 // area this is what the definitions do to the list of balls which it stands for, is said in
-// `proofs/AreaLaws` and `proofs/RootLaws`. What concerns one side of the box stands in crate `spans`,
-// and the runs of the area in crate `losing`.
+// `proofs/AreaLaws` and `proofs/RootLaws`, and in `proofs/StayLaws` that a box which `restrict` leaves
+// equal it leaves as it was. What concerns one side of the box stands in crate `spans`, and the runs of
+// the area in crate `losing`.
 mod balls;
 mod boxes;
 mod cuts;

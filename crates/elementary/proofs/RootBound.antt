@@ -1,22 +1,20 @@
 -- A value that is at least the root of a number, from the number's bit pattern alone: half the pattern, which is half the exponent, and a number more. Assumes nothing.
-use mathlib.Core.Path.{_≡_, refl, sym, ap, subst, _∙_}
+use mathlib.Core.Path.{_≡_, refl, ap, subst, _∙_}
 use mathlib.Core.Bool.{true, false, not}
-use mathlib.Core.Logic.{_⊎_, inl, inr}
 use Prim.Native.Nat.{ℕ, zero, suc, _+_, _-_, _*_, _/_, _%_, _^_, _≤_, _<_}
 use native.Mathlib.Omega.{arith}
-use native.Mathlib.Nat.{mod-lt, zero-lt-suc, mul-zero, mul-one, add-zero, not-le-of-lt, mul-mul-mul-comm, mul-add, add-mul, mul-comm, le-trans, le-of-eq, lt-irrefl, lt-of-not-le, lt-of-lt-of-le, lt-of-le-of-lt, le-of-lt, add-le-add, le-refl, mul-le-mul, mul-le-mul-right, le-of-mul-le-mul-right}
+use native.Mathlib.Nat.{mod-lt, zero-lt-suc, mul-zero, mul-one, add-zero, not-le-of-lt, mul-mul-mul-comm, add-mul, le-trans, le-of-eq, lt-of-not-le, lt-of-le-of-lt, le-of-lt, add-le-add, le-refl, mul-le-mul, mul-le-mul-right, le-of-mul-le-mul-right}
 use native.Mathlib.Decide.{decLe}
 use borrow.Author.Tests.{lt-ltb}
 use lib.Dec.{T, ltb}
 use lib.Pow.{pow-pos}
 use lib.Ieee.{Float, nan, inf, fin, binary64, up, down, size, units, fits, ofBits, toBits, nanBits, lt, le}
 use lib.Ieee.Exact.{HasValue}
-use lib.Ieee.Fits.{down-pos}
 use lib.Ieee.Scale.{finite}
 use Rattle.floats.specs.Numbers.{+0}
 use Rattle.floats.proofs.Order.Fractions.{leq→le}
 use Rattle.floats.proofs.Order.Patterns as floats
-use Rattle.elementary.specs.Root.{sq, sqrt}
+use Rattle.elementary.specs.Root.{sqrt}
 use Rattle.elementary.specs.Parts.{countOf}
 use Rattle.elementary.proofs.parts.Values.{Pattern, count-high, placed-is, value, unit-fits}
 use Rattle.elementary.proofs.parts.Shifts.{sig, exp, high-scaled, high-root}

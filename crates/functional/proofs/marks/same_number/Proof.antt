@@ -2,7 +2,7 @@ use mathlib.Core.Path.{sym, ap, subst, _∙_}
 use borrow.Author.Needs.{needs}
 use borrow.Author.Tests.{eqb-true}
 use lib.Dec.{T}
-use lib.Ieee.{binary64, fits, ofBits}
+use lib.Ieee.{binary64, ofBits}
 use lib.Ieee.Bits.{ofBits-toBits}
 use Rattle.functional.proofs.marks.same_number.Statement.{statement}
 use Rattle.functional.proofs.marks.same_number.Tie as tie
