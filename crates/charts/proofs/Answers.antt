@@ -56,6 +56,17 @@ within-both ok n room = go ok (ltb 4096 n) (ltb room n) refl
     go true false true e = (omega arith, omega arith)
     go true false false e = (omega arith, ltb-false room n e)
 
+-- and no more than 4,096 are written
+pub few-records : (ok : Bool) (n room : ℕ) → countOf (admittedAs ok n room) ≤ 4096
+unfolding admittedAs
+few-records ok n room = go ok (ltb 4096 n) (ltb room n) refl
+  where
+    go : (a b c : Bool) → ltb 4096 n ≡ b → countOf (cond a (cond b (Charted.Refused Refusal.TooLong) (cond c (Charted.Refused Refusal.Room) (Charted.Records n))) (Charted.Refused Refusal.Chart)) ≤ 4096
+    go false b c e = omega arith
+    go true true c e = omega arith
+    go true false true e = omega arith
+    go true false false e = ltb-false 4096 n e
+
 -- ---- an answer is known by what is said of it
 pub charted-apart : (r q : Charted) → charted r ≡ charted q → r ≡ q
 charted-apart (Charted.Records n) (Charted.Records m) e = cc

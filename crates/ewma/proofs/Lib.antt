@@ -1,2 +1,4 @@
 pub mod Types
+pub mod Fading
+pub mod AtRest
 pub mod Examples

@@ -5,6 +5,7 @@
 // Every call ends with an answer or a refusal, and asks nothing of its caller: settings are checked
 // when they are used. `specs/Chart` has the recurrences that the records equal.
 mod points;
+mod resting;
 mod step;
 
 ghost use mathlib.Core.Path.{_≡_};
@@ -13,9 +14,12 @@ use charts::Charted;
 use charts::Observation;
 use charts::Signalled;
 use points::mark;
+pub use resting::followed_by;
+use resting::next_paced;
+pub use resting::settles;
+use resting::start_paced;
 pub use step::following;
 pub use step::judge;
-use step::next;
 pub use step::start;
 
 pub struct Ewma {
@@ -38,6 +42,18 @@ pub struct EwmaResult {
 // What goes from reading to reading: nothing beside the last record.
 pub struct State {
     pub shown: EwmaResult,
+}
+
+// The place from which on the limits stay, and how far from the target.
+pub struct Settled {
+    pub from: usize,
+    pub half_width: f64,
+}
+
+// What goes from reading to reading in `analyze`: the last record, and where the limits settle.
+pub(crate) struct Paced {
+    pub(crate) shown: EwmaResult,
+    pub(crate) settled: Settled,
 }
 
 impl Ewma {
@@ -71,11 +87,11 @@ impl Ewma {
     {
         let answer = judge(self, data.len(), records.len());
         let n = charts::count(answer);
-        let mut state = start(self);
+        let mut paced = start_paced(self);
         let mut i = 0;
         while i < n {
-            state = next(self, data, i, state);
-            records[i] = state.shown;
+            paced = next_paced(self, data, i, paced);
+            records[i] = paced.shown;
             i += 1;
         }
         answer

@@ -5,6 +5,7 @@ ghost use lib.ListN.{length, getD};
 ghost use lib.Ieee.{nan};
 ghost use Rattle.charts.specs.Answers.{admittedAs};
 ghost use Rattle.ewma.specs.Chart.{accepted, halfWidth, placeOf, stepOf, startState, nextState, followingState};
+ghost use Rattle.ewma.specs.Settled.{widthAt, stepBy};
 use crate::Ewma;
 use crate::EwmaResult;
 use crate::State;
@@ -31,30 +32,42 @@ pub fn judge(chart: Ewma, readings: usize, room: usize) -> Charted
 }
 
 // The place of an observation on the chart.
-fn place_of(index: Observation) -> Place
+pub(crate) fn place_of(index: Observation) -> Place
     requires { ⌜ index .0 < 2 ^ 62 ⌝ }
     ensures { λ r. ⌜ r ≡ placeOf index ⌝ }
 {
     Place(index.0 + 1)
 }
 
-// How far the limits lie from the target at a place. Cost: one turn for each binary digit of the place.
-fn control_limit_half_width(chart: Ewma, place: Place) -> f64
-    requires { ⌜ place .0 ≤ 2 ^ 62 ⌝ }
-    ensures { λ r. ⌜ r ≡ halfWidth chart place ⌝ }
+// How far the limits lie from the target where the statistic has so much of its variance at rest.
+pub(crate) fn width_at(chart: Ewma, share: f64) -> f64
+    ensures { λ r. ⌜ r ≡ widthAt chart share ⌝ }
 {
     let asymptotic_var = chart.lambda / (2.0 - chart.lambda);
-    let decay = elementary::powi(1.0 - chart.lambda, (2 * place.0) as u64);
-    let time_varying_var = asymptotic_var * (1.0 - decay);
+    let time_varying_var = asymptotic_var * share;
     chart.l_factor * chart.sigma * elementary::sqrt(time_varying_var)
 }
 
-// The record of the reading x, from the statistic of the record before it. A gap carries it forward.
-fn step(chart: Ewma, before: EwmaResult, index: Observation, x: f64) -> EwmaResult
-    requires { ⌜ index .0 < 2 ^ 62 ⌝ }
-    ensures { λ r. ⌜ r ≡ stepOf chart before index x ⌝ }
+// How far the limits lie from the target at a place. Cost: one turn for each binary digit of the place.
+pub(crate) fn control_limit_half_width(chart: Ewma, place: Place) -> f64
+    requires { ⌜ place .0 ≤ 2 ^ 62 ⌝ }
+    ensures { λ r. ⌜ r ≡ halfWidth chart place ⌝ }
 {
-    let half_width = control_limit_half_width(chart, place_of(index));
+    let decay = elementary::powi(1.0 - chart.lambda, (2 * place.0) as u64);
+    width_at(chart, 1.0 - decay)
+}
+
+// The record of the reading x, with limits so far from the target, from the statistic of the record
+// before it. A gap carries it forward.
+pub(crate) fn step_by(
+    chart: Ewma,
+    half_width: f64,
+    before: EwmaResult,
+    index: Observation,
+    x: f64,
+) -> EwmaResult
+    ensures { λ r. ⌜ r ≡ stepBy chart «half_width» before index x ⌝ }
+{
     let ucl = chart.target + half_width;
     let lcl = chart.target - half_width;
     if floats::finite(x) {
@@ -78,6 +91,15 @@ fn step(chart: Ewma, before: EwmaResult, index: Observation, x: f64) -> EwmaResu
     }
 }
 
+// The record of the reading x, from the record before it.
+fn step(chart: Ewma, before: EwmaResult, index: Observation, x: f64) -> EwmaResult
+    requires { ⌜ index .0 < 2 ^ 62 ⌝ }
+    ensures { λ r. ⌜ r ≡ stepOf chart before index x ⌝ }
+{
+    let half_width = control_limit_half_width(chart, place_of(index));
+    step_by(chart, half_width, before, index, x)
+}
+
 // Before the first reading the statistic is the target.
 pub fn start(chart: Ewma) -> State
     ensures { λ r. ⌜ r ≡ startState chart ⌝ }
@@ -93,7 +115,7 @@ pub fn start(chart: Ewma) -> State
 }
 
 // The state after the reading at i.
-pub(crate) fn next(chart: Ewma, data: &[f64], i: usize, state: State) -> State
+fn next(chart: Ewma, data: &[f64], i: usize, state: State) -> State
     requires { ⌜ i < length (now «data») ⌝ }
     ensures { λ r. ⌜ r ≡ nextState chart state i (getD (now («data» .entry)) i nan) ⌝ }
 {

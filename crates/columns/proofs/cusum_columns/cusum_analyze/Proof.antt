@@ -2,18 +2,16 @@
 use mathlib.Core.Path.{_≡_, refl, ap, _∙_}
 use Prim.Native.Nat.{_≤_, _<_, _-_}
 use native.Mathlib.Omega.{arith}
-use borrow.Author.Needs.{needs}
 use lib.ListN.{length}
 use denote.Ref.{now}
 use Rattle.charts.specs.Answers.{admittedAs, charted, countOf}
 use Rattle.charts.specs.declared.Charted.{Charted}
-use Rattle.charts.proofs.Answers.{admitted-says}
+use Rattle.charts.proofs.Answers.{admitted-says, few-records}
 use Rattle.charts.proofs.Columns.{Going, not-gone}
 use Rattle.cusum.specs.Chart.{accepted, shownOf, startState, nextState}
 use Rattle.told.specs.Told.{countedOf}
 use Rattle.columns.specs.CusumColumns.{Filled, roomOf}
 use Rattle.columns.proofs.CusumLaws.{Room, written-room, upper-length, lower-length, signal-length, index-length, all-done, one-more}
-use Rattle.columns.proofs.Lengths.{written-few}
 use Rattle.columns.proofs.cusum_columns.cusum_analyze.Statement.{statement}
 use Rattle.columns.proofs.cusum_columns.cusum_analyze.Tie as tie
 
@@ -73,7 +71,7 @@ index-within c =
     omega (arith, e, c .loop-test .taken, fits (c .before) .1 .index-room)
 
 few : (c : tie.At-loop Inv-loop μ-loop) → c .before .before .count .result ≤ 4096
-few c = rw (counted c) (written-few _ _ _)
+few c = rw (counted c) (few-records _ _ _)
 
 -- an index of a reading is small
 small : (c : tie.In-loop Inv-loop μ-loop) → c .before .loop .i < 4096

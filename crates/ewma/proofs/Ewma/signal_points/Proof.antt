@@ -4,7 +4,7 @@ use borrow.Author.Needs.{needs}
 use lib.ListN.{length}
 use denote.Ref.{now}
 use Rattle.charts.specs.Answers.{admittedAs, countOf}
-use Rattle.charts.proofs.Answers.{within-both}
+use Rattle.charts.proofs.Answers.{within-both, few-records}
 use Rattle.charts.proofs.Loops.{marked}
 use Rattle.ewma.specs.Chart.{accepted, signalling}
 use Rattle.ewma.proofs.Ewma.signal_points.Statement.{statement}
@@ -21,7 +21,7 @@ counted : (c : tie.After-count) → let a = c .before .before .before .before .a
 counted c = c .count .ensures ∙ ap countOf (c .before .judge .ensures)
 
 mark-requires : tie.Need-mark-requires
-mark-requires c κs = rw (counted (c .before)) (within-both _ _ _)
+mark-requires c κs = rw (counted (c .before)) (within-both _ _ _ .0, within-both _ _ _ .1, few-records _ _ _)
 
 marked-requires : tie.Need-marked-requires
 marked-requires c κs = search needs

@@ -1,0 +1,65 @@
+-- The limits of an EWMA chart (002) by where they come to rest: the place, a width for every place, and a run by them. Definitions only.
+use Prim.Native.Nat.{ℕ, zero, suc, _*_}
+use mathlib.Core.Bool.{false, true, cond}
+use mathlib.Core.List.{List}
+use lib.Dec.{leb}
+use lib.IntN.{negsuc}
+use lib.Ieee.{Float, fin}
+use Rattle.floats.specs.Numbers.{_-ᶠ_, _*ᶠ_, _/ᶠ_, _≤ᶠ_, whole}
+use Rattle.floats.specs.Finite.{finite}
+use Rattle.elementary.specs.Root.{sqrt}
+use Rattle.charts.specs.Runs as Runs
+use Rattle.charts.specs.declared.Observation.{Observation}
+use Rattle.charts.specs.declared.Place.{Place}
+use Rattle.ewma.specs.declared.Ewma.{Ewma}
+use Rattle.ewma.specs.declared.EwmaResult.{EwmaResult}
+use Rattle.ewma.specs.declared.State.{State}
+use Rattle.ewma.specs.declared.Settled.{Settled}
+use Rattle.ewma.specs.declared.Paced.{Paced}
+use Rattle.ewma.specs.Chart.{halfWidth, placeOf, within, outside, averaged, fresh}
+
+-- half the distance of the limits where the statistic has a share of its variance at rest; at a place that share is 1 less the decay
+unfoldable pub widthAt : Ewma → Float → Float
+widthAt c share = c .«l_factor» *ᶠ c .sigma *ᶠ sqrt (c .lambda /ᶠ (whole 2 -ᶠ c .lambda) *ᶠ share)
+
+-- 2 ^ -54: 1 less a decay of that size, or a smaller one, is 1
+abbrev pub faint : Float
+faint = fin false 1 (negsuc 53)
+
+-- the first of k places, each twice the one before, whose decay is faint, and twice the last where none is
+unfoldable pub settledFrom : ℕ → ℕ → Float → ℕ
+settledFrom zero place decay = place
+settledFrom (suc k) place decay = elim (decay ≤ᶠ faint) [ true ↦ place | false ↦ settledFrom k (2 * place) (decay *ᶠ decay) ]
+
+-- the same for a chart, from place 1 on; a decay above 1 never settles, and no chart reaches place 8,192
+unfoldable pub settledOf : Ewma → Settled
+settledOf c =
+    let kept = whole 1 -ᶠ c .lambda in
+    record { from = cond (kept *ᶠ kept ≤ᶠ whole 1) (settledFrom 13 1 (kept *ᶠ kept)) 8192; «half_width» = widthAt c (whole 1) }
+
+-- the width at a place: the one at rest from there on, and before it the place's own
+unfoldable pub widthFrom : Ewma → Settled → Place → Float
+widthFrom c w place = cond (leb (w .from) (place .0)) (w .«half_width») (halfWidth c place)
+
+-- `stepOf` with a given width
+unfoldable pub stepBy : Ewma → Float → EwmaResult → Observation → Float → EwmaResult
+stepBy c half before index x =
+    let ewma = averaged c (before .ewma) x in
+    cond (finite x) (within c index half (outside c half ewma) ewma) (within c index half false (before .ewma))
+
+-- the states of a run with those widths
+abbrev pub nextBy : Settled → Ewma → State → ℕ → Float → State
+nextBy w c s i x = record { shown = stepBy c (widthFrom c w (placeOf (record { 0 = i }))) (s .shown) (record { 0 = i }) x }
+
+abbrev pub followedBy : Settled → Ewma → List Float → ℕ → State → State
+followedBy w = Runs.following (nextBy w)
+
+-- the states of a run that carries them along
+abbrev pub shownPaced : Paced → EwmaResult
+shownPaced p = p .shown
+
+abbrev pub startPaced : Ewma → Paced
+startPaced c = record { shown = fresh c; settled = settledOf c }
+
+abbrev pub nextPaced : Ewma → Paced → ℕ → Float → Paced
+nextPaced c p i x = record { shown = nextBy (p .settled) c (record { shown = p .shown }) i x .shown; settled = p .settled }
