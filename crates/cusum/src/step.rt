@@ -1,10 +1,13 @@
 // The settings of a chart, and one reading's step.
 ghost use mathlib.Core.Path.{_≡_};
 ghost use Prim.Native.Nat.{_<_};
+ghost use mathlib.Core.Bool.{true, false};
 ghost use lib.ListN.{length, getD};
-ghost use lib.Ieee.{nan};
+ghost use lib.Ieee.{nan, isNan};
+ghost use Rattle.floats.specs.Numbers.{_+ᶠ_, _-ᶠ_, _<ᶠ_, +0};
+ghost use Rattle.floats.specs.MaxMin.{max};
 ghost use Rattle.charts.specs.Answers.{admittedAs};
-ghost use Rattle.cusum.specs.Chart.{accepted, stepOf, startState, nextState, followingState};
+ghost use Rattle.cusum.specs.Chart.{accepted, moved, stepOf, startState, nextState, followingState};
 use crate::Cusum;
 use crate::CusumResult;
 use crate::State;
@@ -29,21 +32,59 @@ pub fn judge(chart: Cusum, readings: usize, room: usize) -> Charted
     charts::admitted(accepted(chart), readings, room)
 }
 
+// A sum less the allowance, and 0 where that is not above it. The difference is no negative zero, as k
+// is above 0, so that this is the larger of the two, and one instruction.
+fn less(sum: f64, k: f64) -> f64
+    requires { ⌜ +0 <ᶠ k ≡ true ⌝ }
+    ensures { λ r. ⌜ r ≡ max (sum -ᶠ k) +0 ⌝ }
+{
+    let left = sum - k;
+    if 0.0 < left { left } else { 0.0 }
+}
+
+// Whether a sum that is no NaN is above h. It is asked from the other side, since two tests of one kind
+// are compiled to one of the larger sum, which keeps the sums waiting.
+fn above(h: f64, sum: f64) -> bool
+    requires { ⌜ (+0 <ᶠ h ≡ true) × (isNan sum ≡ false) ⌝ }
+    ensures { λ r. ⌜ r ≡ h <ᶠ sum ⌝ }
+{
+    if sum <= h { false } else { true }
+}
+
+// The record of a reading that lies z from the target.
+fn moved(chart: Cusum, before: CusumResult, index: Observation, z: f64) -> CusumResult
+    ensures { λ r. ⌜ r ≡ moved chart index (max (before .«s_upper» +ᶠ z -ᶠ chart .k) +0) (max (before .«s_lower» -ᶠ z -ᶠ chart .k) +0) ⌝ }
+{
+    let upper = before.s_upper + z;
+    let lower = before.s_lower - z;
+    if charts::both(0.0 < chart.k, 0.0 < chart.h) {
+        let s_upper = less(upper, chart.k);
+        let s_lower = less(lower, chart.k);
+        let signal = charts::either(chart.h < s_upper, above(chart.h, s_lower));
+        return CusumResult {
+            s_upper,
+            s_lower,
+            signal,
+            index,
+        };
+    }
+    let s_upper = floats::max(upper - chart.k, 0.0);
+    let s_lower = floats::max(lower - chart.k, 0.0);
+    let signal = charts::either(chart.h < s_upper, chart.h < s_lower);
+    CusumResult {
+        s_upper,
+        s_lower,
+        signal,
+        index,
+    }
+}
+
 // The record of the reading x, from the sums of the record before it. A gap carries them forward.
 pub(crate) fn step(chart: Cusum, before: CusumResult, index: Observation, x: f64) -> CusumResult
     ensures { λ r. ⌜ r ≡ stepOf chart before index x ⌝ }
 {
     if floats::finite(x) {
-        let z = (x - chart.target) / chart.sigma;
-        let s_upper = floats::max(before.s_upper + z - chart.k, 0.0);
-        let s_lower = floats::max(before.s_lower - z - chart.k, 0.0);
-        let signal = charts::either(chart.h < s_upper, chart.h < s_lower);
-        CusumResult {
-            s_upper,
-            s_lower,
-            signal,
-            index,
-        }
+        moved(chart, before, index, (x - chart.target) / chart.sigma)
     } else {
         CusumResult {
             s_upper: before.s_upper,
