@@ -59,10 +59,10 @@ negative-round a c h l = go (round binary64 true a c) (round-le binary64 true a 
     go (fin s (suc m) e) v = refl
 
 -- ---- two values that the format holds differ by the smallest value at least
--- a value's denominator divides the smallest value's
-divided : (l : ℕ) (e : ℤ) → down e ≤ 2 ^ l → (p : ℕ) × (down e * p ≡ 2 ^ l)
-divided l (pos k) h = (2 ^ l, one-mul (2 ^ l))
-divided l (negsuc a) h =
+-- a denominator up to the smallest value's divides it, and those of values that the format holds are such
+denominator-divides : (l : ℕ) (e : ℤ) → down e ≤ 2 ^ l → (p : ℕ) × (down e * p ≡ 2 ^ l)
+denominator-divides l (pos k) h = (2 ^ l, one-mul (2 ^ l))
+denominator-divides l (negsuc a) h =
     let le : suc a ≤ l = within (ltb l (suc a)) refl in
     (2 ^ (l - suc a), sym (pow-add 2 (suc a) (l - suc a)) ∙ ap (λ (x : ℕ). 2 ^ x) (omega (arith, le)))
   where
@@ -73,13 +73,13 @@ divided l (negsuc a) h =
     within true e = absurd (apart (2 ^ suc a) (2 ^ l) h (pow-lt {i = l} {j = suc a} (ltb-true l (suc a) e)))
     within false e = ltb-false l (suc a) e
 
-held : (s : Bool) (m : ℕ) (e : ℤ) → T (fits binary64 (fin s m e)) → down e ≤ 2 ^ low binary64
+small-denominator : (s : Bool) (m : ℕ) (e : ℤ) → T (fits binary64 (fin s m e)) → down e ≤ 2 ^ low binary64
 unfolding fits
-held s zero e h = small (up e) (down e) (2 ^ low binary64) (up-pos e) (pow-pos (low binary64)) (eqb→eq (up e * down e) 1 h)
+small-denominator s zero e h = small (up e) (down e) (2 ^ low binary64) (up-pos e) (pow-pos (low binary64)) (eqb→eq (up e * down e) 1 h)
   where
     small : (u d w : ℕ) → 0 < u → 0 < w → u * d ≡ 1 → d ≤ w
     small u d w p q h = let k : 1 * d ≤ u * d = mul-le-mul-right d p in omega (arith, k, h, q)
-held s (suc m) e h =
+small-denominator s (suc m) e h =
     let A = eqb (suc m % 2) 1 in
     let B = ltb (suc m) (2 ^ prec binary64) in
     let C = leb (down e) (2 ^ low binary64) in
@@ -87,8 +87,8 @@ held s (suc m) e h =
     leb→le (down e) (2 ^ low binary64) (and-r (A && B) C (and-l (A && B && C) D h))
 
 -- M / E below N / D, in units of the smallest value
-granule : (M E N D p q w : ℕ) → 0 < w → E * p ≡ w → D * q ≡ w → M * D < N * E → E * D ≤ (N * E - M * D) * w
-granule M E N D p q w h e f l =
+apart-by-smallest : (M E N D p q w : ℕ) → 0 < w → E * p ≡ w → D * q ≡ w → M * D < N * E → E * D ≤ (N * E - M * D) * w
+apart-by-smallest M E N D p q w h e f l =
     let a : M * D * w ≡ M * p * (E * D) = ap (λ (v : ℕ). M * D * v) (sym e) ∙ omega arith in
     let b : N * E * w ≡ N * q * (E * D) = ap (λ (v : ℕ). N * E * v) (sym f) ∙ omega arith in
     let c : M * D * w < N * E * w = mul-lt-mul-of-pos-right l h in
@@ -117,17 +117,18 @@ module _ (m : ℕ) (e : ℤ) (n : ℕ) (d : ℤ) where
   abbrev C : ℕ
   C = down e * down d
 
-  under : (s : Bool) → T (fits binary64 (fin s m e)) → T (fits binary64 (fin false (suc n) d)) → A < B → C ≤ (B - A) * 2 ^ low binary64
-  under s f g l =
-      let p = divided (low binary64) e (held s m e f) in
-      let q = divided (low binary64) d (held false (suc n) d g) in
-      granule (m * up e) (down e) (suc n * up d) (down d) (p .0) (q .0) (2 ^ low binary64) (pow-pos (low binary64)) (p .1) (q .1) l
+  -- what is not zero, of the difference and of the sum, is the smallest value at least
+  difference-smallest : (s : Bool) → T (fits binary64 (fin s m e)) → T (fits binary64 (fin false (suc n) d)) → A < B → C ≤ (B - A) * 2 ^ low binary64
+  difference-smallest s f g l =
+      let p = denominator-divides (low binary64) e (small-denominator s m e f) in
+      let q = denominator-divides (low binary64) d (small-denominator false (suc n) d g) in
+      apart-by-smallest (m * up e) (down e) (suc n * up d) (down d) (p .0) (q .0) (2 ^ low binary64) (pow-pos (low binary64)) (p .1) (q .1) l
 
-  over : (s : Bool) → T (fits binary64 (fin s m e)) → T (fits binary64 (fin false (suc n) d)) → C ≤ (A + B) * 2 ^ low binary64
-  over s f g =
-      let p = divided (low binary64) e (held s m e f) in
-      let q = divided (low binary64) d (held false (suc n) d g) in
-      wider (2 ^ low binary64) (granule 0 (down e) (suc n * up d) (down d) (p .0) (q .0) (2 ^ low binary64) (pow-pos (low binary64)) (p .1) (q .1) (some (down d) B (mul-pos (mul-pos (omega arith) (up-pos d)) (down-pos e))))
+  sum-smallest : (s : Bool) → T (fits binary64 (fin s m e)) → T (fits binary64 (fin false (suc n) d)) → C ≤ (A + B) * 2 ^ low binary64
+  sum-smallest s f g =
+      let p = denominator-divides (low binary64) e (small-denominator s m e f) in
+      let q = denominator-divides (low binary64) d (small-denominator false (suc n) d g) in
+      wider (2 ^ low binary64) (apart-by-smallest 0 (down e) (suc n * up d) (down d) (p .0) (q .0) (2 ^ low binary64) (pow-pos (low binary64)) (p .1) (q .1) (some (down d) B (mul-pos (mul-pos (omega arith) (up-pos d)) (down-pos e))))
     where
       some : (x b : ℕ) → 0 < b → 0 * x < b
       some x b h = omega (arith, h)
@@ -135,29 +136,29 @@ module _ (m : ℕ) (e : ℤ) (n : ℕ) (d : ℤ) where
       wider : (w : ℕ) → C ≤ (B - 0 * down d) * w → C ≤ (A + B) * w
       wider w h = let k : (B - 0 * down d) * w ≤ (A + B) * w = mul-le-mul-right w (omega arith) in omega (arith, h, k)
 
-  fin-less : (s : Bool) → T (fits binary64 (fin s m e)) → T (fits binary64 (fin false (suc n) d)) → minus-zero (fin s m e -ᶠ fin false (suc n) d) ≡ false
+  fin-no-minus-zero : (s : Bool) → T (fits binary64 (fin s m e)) → T (fits binary64 (fin false (suc n) d)) → minus-zero (fin s m e -ᶠ fin false (suc n) d) ≡ false
   unfolding sub neg add sum
-  fin-less true f g = negative-round (A + B) C (mul-pos (down-pos e) (down-pos d)) (over true f g)
-  fin-less false f g = go (ltb A B) (ltb-true A B)
+  fin-no-minus-zero true f g = negative-round (A + B) C (mul-pos (down-pos e) (down-pos d)) (sum-smallest true f g)
+  fin-no-minus-zero false f g = go (ltb A B) (ltb-true A B)
     where
       go : (t : Bool) → (t ≡ true → A < B) → minus-zero (cond t (round binary64 true (B - A) C) (round binary64 false (A - B) C)) ≡ false
-      go true h = negative-round (B - A) C (mul-pos (down-pos e) (down-pos d)) (under false f g (h refl))
+      go true h = negative-round (B - A) C (mul-pos (down-pos e) (down-pos d)) (difference-smallest false f g (h refl))
       go false h = plain-round (A - B) C
 
-less-plain : (y k : Float) → T (fits binary64 y) → T (fits binary64 k) → +0 <ᶠ k ≡ true → minus-zero (y -ᶠ k) ≡ false
+less-no-minus-zero : (y k : Float) → T (fits binary64 y) → T (fits binary64 k) → +0 <ᶠ k ≡ true → minus-zero (y -ᶠ k) ≡ false
 unfolding sub neg add
-less-plain nan k f g h = refl
-less-plain (inf s) nan f g h = refl
-less-plain (inf true) (inf true) f g h = refl
-less-plain (inf true) (inf false) f g h = refl
-less-plain (inf false) (inf true) f g h = refl
-less-plain (inf false) (inf false) f g h = refl
-less-plain (inf s) (fin t n d) f g h = refl
-less-plain (fin s m e) nan f g h = refl
-less-plain (fin s m e) (inf t) f g h = refl
-less-plain (fin s m e) (fin t zero d) f g h = absurd (false≢true (sym (zero-not-above t d) ∙ h))
-less-plain (fin s m e) (fin true (suc n) d) f g h = absurd (false≢true (sym (some-above true n d) ∙ h))
-less-plain (fin s m e) (fin false (suc n) d) f g h = fin-less m e n d s f g
+less-no-minus-zero nan k f g h = refl
+less-no-minus-zero (inf s) nan f g h = refl
+less-no-minus-zero (inf true) (inf true) f g h = refl
+less-no-minus-zero (inf true) (inf false) f g h = refl
+less-no-minus-zero (inf false) (inf true) f g h = refl
+less-no-minus-zero (inf false) (inf false) f g h = refl
+less-no-minus-zero (inf s) (fin t n d) f g h = refl
+less-no-minus-zero (fin s m e) nan f g h = refl
+less-no-minus-zero (fin s m e) (inf t) f g h = refl
+less-no-minus-zero (fin s m e) (fin t zero d) f g h = absurd (false≢true (sym (zero-not-above t d) ∙ h))
+less-no-minus-zero (fin s m e) (fin true (suc n) d) f g h = absurd (false≢true (sym (some-above true n d) ∙ h))
+less-no-minus-zero (fin s m e) (fin false (suc n) d) f g h = fin-no-minus-zero m e n d s f g
 
 -- ---- the larger of a value and 0
 -- by a strict test, where the value is no negative zero
@@ -171,8 +172,8 @@ strict-max (fin false zero e) f h = rw (zero-not-above false e) (abs-zero (fin f
 strict-max (fin true (suc m) e) f h = rw (some-above true m e) (sym (max-second (fin true (suc m) e) +0 (some-below true m e)))
 strict-max (fin false (suc m) e) f h = rw (some-above false m e) (sym (max-first (fin false (suc m) e) +0 tt (some-below false m e)))
 
-pub less-by-test : (y k : Float) → T (fits binary64 y) → T (fits binary64 k) → +0 <ᶠ k ≡ true → cond (+0 <ᶠ y -ᶠ k) (y -ᶠ k) +0 ≡ max (y -ᶠ k) +0
-less-by-test y k f g h = strict-max (y -ᶠ k) (sub-fits binary64 y k) (less-plain y k f g h)
+pub strict-less-max : (y k : Float) → T (fits binary64 y) → T (fits binary64 k) → +0 <ᶠ k ≡ true → cond (+0 <ᶠ y -ᶠ k) (y -ᶠ k) +0 ≡ max (y -ᶠ k) +0
+strict-less-max y k f g h = strict-max (y -ᶠ k) (sub-fits binary64 y k) (less-no-minus-zero y k f g h)
 
 -- it is no NaN
 chosen : (a b : Bool) (z : Float) → isNan z ≡ false → isNan (cond a +0 (cond b +0 z)) ≡ false
@@ -181,15 +182,15 @@ chosen true b z e = refl
 chosen false true z e = refl
 chosen false false z e = e
 
-pub larger-number : (z : Float) → isNan (max z +0) ≡ false
+pub max-number : (z : Float) → isNan (max z +0) ≡ false
 unfolding max isNan
-larger-number nan = ap isNan (max-first-nan +0)
-larger-number (inf s) = chosen (inf s <ᶠ +0) (ne (inf s) (inf s)) (inf s) refl
-larger-number (fin s m e) = chosen (fin s m e <ᶠ +0) (ne (fin s m e) (fin s m e)) (fin s m e) refl
+max-number nan = ap isNan (max-first-nan +0)
+max-number (inf s) = chosen (inf s <ᶠ +0) (ne (inf s) (inf s)) (inf s) refl
+max-number (fin s m e) = chosen (fin s m e <ᶠ +0) (ne (fin s m e) (fin s m e)) (fin s m e) refl
 
 -- ---- above h: not at most h
-pub at-most : (h s : Float) → s ≤ᶠ h ≡ true → false ≡ h <ᶠ s
-at-most h s e = go (h <ᶠ s) (λ t. lt-not-le h s t (rw e tt))
+pub at-most-not-above : (h s : Float) → s ≤ᶠ h ≡ true → false ≡ h <ᶠ s
+at-most-not-above h s e = go (h <ᶠ s) (λ t. lt-not-le h s t (rw e tt))
   where
     go : (b : Bool) → (T b → ⊥) → false ≡ b
     go true f = absurd (f tt)
@@ -201,8 +202,8 @@ numbered nan e = absurd (true≢false e)
 numbered (inf s) e = tt
 numbered (fin s m e) q = tt
 
-pub not-at-most : (h s : Float) → +0 <ᶠ h ≡ true → isNan s ≡ false → s ≤ᶠ h ≡ false → true ≡ h <ᶠ s
-not-at-most h s p n e = go (h <ᶠ s) (not-lt→le h s (le-right +0 h (lt→le +0 h (rw p tt))) (numbered s n))
+pub not-at-most-above : (h s : Float) → +0 <ᶠ h ≡ true → isNan s ≡ false → s ≤ᶠ h ≡ false → true ≡ h <ᶠ s
+not-at-most-above h s p n e = go (h <ᶠ s) (not-lt→le h s (le-right +0 h (lt→le +0 h (rw p tt))) (numbered s n))
   where
     go : (b : Bool) → (T (not b) → T (s ≤ᶠ h)) → true ≡ b
     go true f = refl

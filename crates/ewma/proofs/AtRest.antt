@@ -26,7 +26,7 @@ use Rattle.ewma.specs.declared.Settled.{Settled}
 use Rattle.ewma.specs.declared.Paced.{Paced}
 use Rattle.ewma.specs.Chart.{accepted, halfWidth, stepOf, shownOf, startState, nextState, followingState, Analyzed}
 use Rattle.ewma.specs.Settled.{faint, widthAt, settledFrom, settledOf, widthFrom, stepBy, nextBy, followedBy, shownPaced, startPaced, nextPaced}
-use Rattle.ewma.proofs.Fading.{Within, one, rounded-within, both-whole, squared, faded-power, one-less-faint}
+use Rattle.ewma.proofs.Fading.{Within, one, rounded-within, unit-product, squared, faded-power, one-less-faint}
 
 -- ---- the place
 -- a square that is at most 1 lies from 0 to 1
@@ -45,19 +45,20 @@ tested (inf s) h t = absurd h
 tested (fin true m e) h t = absurd h
 tested (fin false m e) h t = rw t tt
 
--- a place from there on is at least one whose own decay is faint
-pub record Reached (place decay-place : ℕ) (decay : Float) : Type 0 where
+-- a place is at least one whose decay is faint, so many squares after the decay of a first place
+pub record Reached (place first : ℕ) (decay : Float) : Type 0 where
   pub squares : ℕ
-  pub passed : decay-place * 2 ^ squares ≤ place
+  pub passed : first * 2 ^ squares ≤ place
   pub faint-there : Within faint (squared squares decay)
 
+-- so is each place from the one on that is found
 reached : (k p place : ℕ) (d : Float) → Within one d → settledFrom k p d ≤ place → place < p * 2 ^ k → Reached place p d
 unfolding settledFrom
 reached zero p place d w h g = absurd (never p place h g)
   where
     never : (p place : ℕ) → p ≤ place → place < p * 1 → ⊥
     never p place h g = omega (arith, h, g)
-reached (suc k) p place d w h g = go (d ≤ᶠ faint) refl h (λ l. reached k (2 * p) place (d *ᶠ d) (both-whole d d w w) l (within (2 ^ k) (rw (pow-suc 2 k) at g)))
+reached (suc k) p place d w h g = go (d ≤ᶠ faint) refl h (λ l. reached k (2 * p) place (d *ᶠ d) (unit-product d d w w) l (within (2 ^ k) (rw (pow-suc 2 k) at g)))
   where
     within : (v : ℕ) → place < p * (v * 2) → place < 2 * p * v
     within v g = omega (arith, g)
@@ -70,22 +71,23 @@ reached (suc k) p place d w h g = go (d ≤ᶠ faint) refl h (λ l. reached k (2
     go false e h f = one-more (f h)
 
 -- ---- the width there
--- an even power begins with a square
-halved : (k n place : ℕ) (b : Float) → n ≡ 2 * place → n ≤ k → 0 < place → Within one (b *ᶠ b) → Reached place 1 (b *ᶠ b) → Within faint (powFrom k n b one)
+-- an even power begins with a square, and is faint from there on
+even-power-faint : (k n place : ℕ) (b : Float) → n ≡ 2 * place → n ≤ k → 0 < place → Within one (b *ᶠ b) → Reached place 1 (b *ᶠ b) → Within faint (powFrom k n b one)
 unfolding powFrom
-halved zero n place b e h l w r = absurd (nothing n place e h l)
+even-power-faint zero n place b e h l w r = absurd (nothing n place e h l)
   where
     nothing : (n place : ℕ) → n ≡ 2 * place → n ≤ 0 → 0 < place → ⊥
     nothing n place e h l = omega (arith, e, h, l)
-halved (suc k) zero place b e h l w r = absurd (nothing place e l)
+even-power-faint (suc k) zero place b e h l w r = absurd (nothing place e l)
   where
     nothing : (place : ℕ) → 0 ≡ 2 * place → 0 < place → ⊥
     nothing place e l = omega (arith, e, l)
-halved (suc k) (suc n) place b e h l w r =
+even-power-faint (suc k) (suc n) place b e h l w r =
     let half : suc n / 2 ≡ place = omega (arith, e) in
     let bit : suc n % 2 ≡ 0 = omega (arith, e) in
     rw (half, bit) (faded-power (r .squares) k place (b *ᶠ b) one (omega (arith, e, h, l)) (omega (arith, r .passed)) w (unfold le in tt) (r .faint-there))
 
+-- the width that is kept from the place on is the place's own
 pub width-settles : (c : Ewma) (place : Place) → 0 < place .0 → place .0 < 8192 → widthFrom c (settledOf c) place ≡ halfWidth c place
 unfolding widthFrom settledOf halfWidth widthAt powi ofInt
 width-settles c place low high = go (kept *ᶠ kept ≤ᶠ one) refl
@@ -100,7 +102,7 @@ width-settles c place low high = go (kept *ᶠ kept ≤ᶠ one) refl
     from-there : (t : Bool) → kept *ᶠ kept ≤ᶠ one ≡ t → cond t (settledFrom 13 1 (kept *ᶠ kept)) 8192 ≤ place .0 → widthAt c one ≡ halfWidth c place
     from-there true e h =
         let w : Within one (kept *ᶠ kept) = square-within kept (rw e tt) in
-        rests (halved (2 * place .0) (2 * place .0) (place .0) kept refl (omega arith) low w (reached 13 1 (place .0) (kept *ᶠ kept) w h (omega (arith, high))))
+        rests (even-power-faint (2 * place .0) (2 * place .0) (place .0) kept refl (omega arith) low w (reached 13 1 (place .0) (kept *ᶠ kept) w h (omega (arith, high))))
     from-there false e h = absurd (too-far h)
       where
         too-far : 8192 ≤ place .0 → ⊥

@@ -63,25 +63,26 @@ product-within p g q h r k e (fin false m i) nan u v = absurd v
 product-within p g q h r k e (fin false m i) (inf s) u v = absurd v
 product-within p g q h r k e (fin false m i) (fin true n j) u v = absurd v
 
-pub both-whole : (x y : Float) → Within one x → Within one y → Within one (x *ᶠ y)
+-- of two values up to 1, and of one with a faint one
+pub unit-product : (x y : Float) → Within one x → Within one y → Within one (x *ᶠ y)
 unfolding mul
-both-whole = product-within 1 (pos 0) 1 (pos 0) 1 (pos 0) refl
+unit-product = product-within 1 (pos 0) 1 (pos 0) 1 (pos 0) refl
 
-one-faint : (x y : Float) → Within one x → Within faint y → Within faint (x *ᶠ y)
+faint-product : (x y : Float) → Within one x → Within faint y → Within faint (x *ᶠ y)
 unfolding mul
-one-faint = product-within 1 (pos 0) 1 (negsuc 53) 1 (negsuc 53) refl
+faint-product = product-within 1 (pos 0) 1 (negsuc 53) 1 (negsuc 53) refl
 
 -- what is faint is at most 1
-faint-whole : (x : Float) → Within faint x → Within one x
-faint-whole (fin false m e) h = le-transitive (fin false m e) faint one h (unfold le in tt)
-faint-whole nan h = absurd h
-faint-whole (inf s) h = absurd h
-faint-whole (fin true m e) h = absurd h
+faint-unit : (x : Float) → Within faint x → Within one x
+faint-unit (fin false m e) h = le-transitive (fin false m e) faint one h (unfold le in tt)
+faint-unit nan h = absurd h
+faint-unit (inf s) h = absurd h
+faint-unit (fin true m e) h = absurd h
 
 -- ---- powers
-times-whole : (bit : ℕ) (r b : Float) → Within one r → Within one b → Within one (timesIf bit r b)
-times-whole zero r b h g = h
-times-whole (suc bit) r b h g = both-whole r b h g
+unit-times : (bit : ℕ) (r b : Float) → Within one r → Within one b → Within one (timesIf bit r b)
+unit-times zero r b h g = h
+unit-times (suc bit) r b h g = unit-product r b h g
 
 none-left : (k : ℕ) (b r : Float) → powFrom k 0 b r ≡ r
 unfolding powFrom
@@ -99,13 +100,13 @@ faint-power (suc k) zero b r h g p q = absurd (not-suc-le-zero g)
 faint-power (suc k) (suc n) b r h g p q =
     elim (eq-zero-or-pos (suc n / 2)) [
       | inl z ↦ last z
-      | inr l ↦ faint-power k (suc n / 2) (b *ᶠ b) (timesIf (suc n % 2) r b) (omega (arith, h)) l (one-faint b b (faint-whole b p) p) (times-whole (suc n % 2) r b q (faint-whole b p))
+      | inr l ↦ faint-power k (suc n / 2) (b *ᶠ b) (timesIf (suc n % 2) r b) (omega (arith, h)) l (faint-product b b (faint-unit b p) p) (unit-times (suc n % 2) r b q (faint-unit b p))
     ]
   where
     last : suc n / 2 ≡ 0 → Within faint (powFrom k (suc n / 2) (b *ᶠ b) (timesIf (suc n % 2) r b))
-    last z = let o : suc n % 2 ≡ 1 = omega (arith, z) in rw (z, o, none-left k (b *ᶠ b) (r *ᶠ b)) (one-faint r b q p)
+    last z = let o : suc n % 2 ≡ 1 = omega (arith, z) in rw (z, o, none-left k (b *ᶠ b) (r *ᶠ b)) (faint-product r b q p)
 
--- the base after k squares
+-- the base after j squares
 abbrev pub squared : ℕ → Float → Float
 squared zero b = b
 squared (suc j) b = squared j (b *ᶠ b)
@@ -120,10 +121,10 @@ faded-power (suc j) k zero b r h g p q f = absurd (none (2 ^ suc j) (pow-pos (su
     none w l g = omega (arith, l, g)
 faded-power (suc j) zero (suc n) b r h g p q f = absurd (not-suc-le-zero h)
 faded-power (suc j) (suc k) (suc n) b r h g p q f =
-    faded-power j k (suc n / 2) (b *ᶠ b) (timesIf (suc n % 2) r b) (omega (arith, h)) (omega (arith, g, pow-suc 2 j)) (both-whole b b p p) (times-whole (suc n % 2) r b q p) f
+    faded-power j k (suc n / 2) (b *ᶠ b) (timesIf (suc n % 2) r b) (omega (arith, h)) (omega (arith, g, pow-suc 2 j)) (unit-product b b p p) (unit-times (suc n % 2) r b q p) f
 
 -- ---- 1 less what is faint
--- by the order and the size alone
+-- a value that the format holds and that is neither above 1 nor below it
 only-one : (v : Float) → T (fits binary64 v) → T (le one v) → T (le v one) → v ≡ one
 only-one nan f h g = absurd (unfold le in g)
 only-one (inf true) f h g = absurd (unfold le in h)
@@ -144,10 +145,10 @@ one-less-faint (inf s) h = absurd h
 one-less-faint (fin true m e) h = absurd h
 one-less-faint (fin false m e) h =
     let y = fin false m e in
-    let whole-one : T (le one one) = unfold le in tt in
+    let one-one : T (le one one) = unfold le in tt in
     let no-nan : T (number (one -ᶠ y)) = add-finite binary64 one (neg y) tt tt in
     let least : one -ᶠ faint ≡ one = refl in
     let most : one -ᶠ +0 ≡ one = refl in
     only-one (one -ᶠ y) (sub-fits binary64 one y)
-    (subst (λ (z : Float). T (le z (one -ᶠ y))) least (sub-le-both binary64 one faint one y whole-one h tt no-nan))
-    (subst (λ (z : Float). T (le (one -ᶠ y) z)) most (sub-le-both binary64 one y one +0 whole-one (leq→le false 0 (pos 0) false m e (omega arith)) no-nan tt))
+    (subst (λ (z : Float). T (le z (one -ᶠ y))) least (sub-le-both binary64 one faint one y one-one h tt no-nan))
+    (subst (λ (z : Float). T (le (one -ᶠ y) z)) most (sub-le-both binary64 one y one +0 one-one (leq→le false 0 (pos 0) false m e (omega arith)) no-nan tt))

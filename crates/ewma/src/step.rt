@@ -39,7 +39,7 @@ pub(crate) fn place_of(index: Observation) -> Place
     Place(index.0 + 1)
 }
 
-// How far the limits lie from the target where the statistic has so much of its variance at rest.
+// How far the limits lie from the target where the statistic has this share of its variance at rest.
 pub(crate) fn width_at(chart: Ewma, share: f64) -> f64
     ensures { λ r. ⌜ r ≡ widthAt chart share ⌝ }
 {

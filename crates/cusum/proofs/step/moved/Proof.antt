@@ -3,7 +3,7 @@ use mathlib.Core.Path.{_≡_, refl, sym, ap, _∙_}
 use mathlib.Core.Bool.{Bool, true, false, _&&_, false≢true}
 use lib.Ieee.{ofBits, isNan}
 use Rattle.floats.specs.Numbers.{_<ᶠ_, +0}
-use Rattle.cusum.proofs.Allowance.{larger-number}
+use Rattle.cusum.proofs.Allowance.{max-number}
 use Rattle.cusum.proofs.step.moved.Statement.{statement}
 use Rattle.cusum.proofs.step.moved.Tie as tie
 
@@ -27,7 +27,7 @@ less-requires-2 : tie.Need-less-requires-2
 less-requires-2 c κs = both-above (c .before) .0
 
 above-requires : tie.Need-above-requires
-above-requires c κs = (both-above (c .before .before .before) .1, ap isNan (c .before .less2 .ensures) ∙ larger-number _)
+above-requires c κs = (both-above (c .before .before .before) .1, ap isNan (c .before .less2 .ensures) ∙ max-number _)
 
 either-requires : tie.Need-either-requires
 either-requires c κs = tt
