@@ -40,10 +40,12 @@ loop-less : tie.Need-loop-less Inv-loop μ-loop
 loop-less c = search needs
 
 -- the state moves on as the chart's own
-moves : (c : tie.After-next-by Inv-loop μ-loop) → let at = c .before .before in c .next-by .result ≡ nextState (at .before .before .before .before .before .args .chart) (at .loop .state) (at .loop .i) (getD (now (at .before .before .before .before .before .args .«data»)) (at .loop .i) nan)
+moves : (c : tie.After-next-by Inv-loop μ-loop) → let at = c .before .before in let a = at .before .before .before .before .before .args in
+    c .next-by .result ≡ nextState (a .chart) (at .loop .state) (at .loop .i) (getD (now (a .«data»)) (at .loop .i) nan)
 moves c =
     let at = c .before .before in
-    c .next-by .ensures ∙ next-settles _ _ _ _ _ (at .before .before .settles .ensures) (omega (arith, c .before .loop-test .taken, at .before .before .before .before .before .pre .2))
+    let a = at .before .before .before .before .before .args in
+    c .next-by .ensures ∙ next-settles (a .chart) (at .before .before .settles .result) (at .loop .state) (at .loop .i) (getD (now (a .«data»)) (at .loop .i) nan) (at .before .before .settles .ensures) (omega (arith, c .before .loop-test .taken, at .before .before .before .before .before .pre .2))
 
 loop-again : tie.Need-loop-again Inv-loop μ-loop
 loop-again c = one-more shownOf startState nextState signalOf _ _ _ _ _ _ _ _ (c .before .before .before .before .before .before .before .loop .inv) (c .before .before .before .before .before .before .before .before .before .before .before .before .pre .1) _ _ _ (c .before .before .before .before .before .before .loop-test .taken) (moves (c .before .before .before .before .before)) (c .before .before .note .ensures)
