@@ -117,8 +117,8 @@ module _ (b : ℕ) (low : 2 ^ 52 ≤ b) (high : b < 2047 * 2 ^ 52) where
           (placed 1022 (sum % 2 ^ 52 + 0x3fe6_a09e_667f_3bce) (lit≤ tt) p)
 
 -- ---- a plain value
--- the smallest normal value is above zero
-zero-first : T (lt +0 (ofBits binary64 0x0010_0000_0000_0000))
+-- the largest subnormal value is above zero
+zero-first : T (lt +0 (ofBits binary64 0x000f_ffff_ffff_ffff))
 unfolding lt ofBits
 zero-first = tt
 
@@ -133,28 +133,28 @@ unsigned-of x h = elim (above-zero x h) [ inl p ↦ go x p | inr e ↦ ap unsign
     go (fin false m e) p = refl
 
 module _ (v : Float) (f : T (fits binary64 v)) (h : plain v ≡ true) where
-  both : T (lt (ofBits binary64 0x0010_0000_0000_0000) v) × T (lt v (ofBits binary64 0x7ff0_0000_0000_0000))
+  both : T (lt (ofBits binary64 0x000f_ffff_ffff_ffff) v) × T (lt v (ofBits binary64 0x7ff0_0000_0000_0000))
   unfolding plain
   both =
       let t : T (plain v) = subst T (sym h) tt in
-      (and-l (lt (ofBits binary64 0x0010_0000_0000_0000) v) (lt v (ofBits binary64 0x7ff0_0000_0000_0000)) t, and-r (lt (ofBits binary64 0x0010_0000_0000_0000) v) (lt v (ofBits binary64 0x7ff0_0000_0000_0000)) t)
+      (and-l (lt (ofBits binary64 0x000f_ffff_ffff_ffff) v) (lt v (ofBits binary64 0x7ff0_0000_0000_0000)) t, and-r (lt (ofBits binary64 0x000f_ffff_ffff_ffff) v) (lt v (ofBits binary64 0x7ff0_0000_0000_0000)) t)
 
   true-of : (b : Bool) → T b → b ≡ true
   true-of true t = refl
   true-of false t = absurd t
 
   above : lt +0 v ≡ true
-  above = true-of (lt +0 v) (lt-then-le +0 (ofBits binary64 0x0010_0000_0000_0000) v zero-first (lt→le (ofBits binary64 0x0010_0000_0000_0000) v (both .0)))
+  above = true-of (lt +0 v) (lt-then-le +0 (ofBits binary64 0x000f_ffff_ffff_ffff) v zero-first (lt→le (ofBits binary64 0x000f_ffff_ffff_ffff) v (both .0)))
 
   abbrev pattern : ℕ
   pattern = toBits binary64 v
 
   pub low-bound : 2 ^ 52 ≤ pattern
   low-bound =
-      let a = Patterns.pattern-of 0x0010_0000_0000_0000 (lit≤ tt) in
-      let e = pattern-order (ofBits binary64 0x0010_0000_0000_0000) v (a .clear) (unsigned-of v above) (a .held) f in
+      let a = Patterns.pattern-of 0x000f_ffff_ffff_ffff (lit≤ tt) in
+      let e = pattern-order (ofBits binary64 0x000f_ffff_ffff_ffff) v (a .clear) (unsigned-of v above) (a .held) f in
       let l = ltb-true _ _ (sym e ∙ true-of _ (both .0)) in
-      le-of-lt (subst (λ (z : ℕ). z < pattern) (a .back) l)
+      subst (λ (z : ℕ). z < pattern) (a .back) l
 
   pub high-bound : pattern < 2047 * 2 ^ 52
   high-bound =

@@ -9,9 +9,9 @@ use lib.Ieee.{Float, nan, binary64, ofBits, toBits, ofInt}
 use Rattle.floats.specs.Numbers.{_-ᶠ_, _+ᶠ_, _*ᶠ_, _/ᶠ_, _<ᶠ_, whole}
 use Rattle.elementary.specs.Logarithm.{series}
 
--- a finite value above the smallest normal one
+-- a finite value above the largest subnormal one
 unfoldable pub plain : Float → Bool
-plain v = (ofBits binary64 0x0010_0000_0000_0000 <ᶠ v) && (v <ᶠ ofBits binary64 0x7ff0_0000_0000_0000)
+plain v = (ofBits binary64 0x000f_ffff_ffff_ffff <ᶠ v) && (v <ᶠ ofBits binary64 0x7ff0_0000_0000_0000)
 
 -- the bit pattern and what carries into the exponent where the significand is above 1.4142135623730951
 abbrev pub carriedOf : Float → ℕ

@@ -1,4 +1,4 @@
-// Plain values, finite and above the smallest normal one: the two parts of their logarithms.
+// Plain values, finite and above the largest subnormal one: the two parts of their logarithms.
 ghost use mathlib.Core.Path.{_≡_};
 ghost use mathlib.Core.Bool.{true};
 ghost use lib.ListN.{length};
@@ -8,7 +8,7 @@ ghost use Rattle.logarithms.specs.Stages.{plain, Plain, carriedOf, expon
 fn is_plain(value: f64) -> bool
     ensures { λ r. ⌜ r ≡ plain value ⌝ }
 {
-    (f64::from_bits(0x0010_0000_0000_0000) < value)
+    (f64::from_bits(0x000f_ffff_ffff_ffff) < value)
         & (value < f64::from_bits(0x7ff0_0000_0000_0000))
 }
 
