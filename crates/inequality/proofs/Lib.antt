@@ -1,5 +1,11 @@
-pub mod ScanLaws
+pub mod WrittenLaws
+pub mod WeightLaws
+pub mod LowestLaws
+pub mod KeepingLaws
+pub mod CandidateLaws
+pub mod DecisionLaws
 pub mod StepLaws
+pub mod BeginLaws
 pub mod PrunedLaws
 pub mod SoundLaws
 pub mod Examples

@@ -14,24 +14,26 @@ use Rattle.costs.specs.declared.CostFunction.{CostFunction}
 use Rattle.recurrence.specs.Room.{searchFits}
 use Rattle.recurrence.proofs.RoomLaws.{Series, Roomy, split-floats}
 use Rattle.inequality.specs.declared.Plan.{Plan}
-use Rattle.inequality.specs.Inequality.{State, predecessors}
+use Rattle.inequality.specs.Inequality.{predecessors}
 use Rattle.inequality.specs.Pruned.{Pruned}
-use Rattle.inequality.specs.Held.{Room, planned, view, Holds}
+use Rattle.inequality.specs.Held.{Room, planned, Holds}
+use Rattle.inequality.proofs.WeightLaws.{twice}
 
 -- ---- the plan
-pub plan-room : (cost : CostFunction) (penalty : Float) (run n k m lf li f p c : ℕ) → Series run n k m → Roomy n k lf li → f ≡ k * (2 * (n + 1)) → p ≡ f + (n + 1) → c ≡ n + 1
+pub plan-room : (cost : CostFunction) (penalty : Float) (run n k m lf li f p c : ℕ) → Series run n k m → Roomy n k lf li → f ≡ 2 * k * (n + 1) → p ≡ f + (n + 1) → c ≡ n + 1
     → Room (record { cost = cost; penalty = penalty; n = n; m = m; channels = k; f = f; p = p; c = c }) lf li
 plan-room cost penalty run n k m lf li f p c s r e g h =
     let total = split-floats k (n + 1) in
+    let same = twice k (n + 1) in
     record {
       short = s .short;
       few = s .few;
       some = s .some;
       ripe = s .ripe;
-      sums = omega arith;
-      f = omega arith;
-      p = omega (arith, r .floats);
-      last = omega arith;
+      f = e;
+      p = g;
+      floats = omega (arith, r .floats);
+      last = h;
       c = omega (arith, r .indices);
     }
 
@@ -40,10 +42,10 @@ pub pruned-found : (q : Plan) (run xs xs₁ xs₂ : List Float) (ix ix₁ ix₂ 
     → searchFits (length run) (q .n) (q .channels) (q .m) (length xs) (length ix) ≡ true → Holds run q xs₁ ix₁ count (q .n + 1) → length xs₁ ≡ length xs → length ix₁ ≡ length ix
     → Cleared +0 xs₁ xs₂ 0 size → size ≡ length xs₁ → Cleared 0 ix₁ ix₂ place long → place ≡ q .n + 1 → long ≡ length ix₁
     → Pruned (q .cost) (q .penalty) run (q .n) (q .channels) (q .m) xs xs₂ ix ix₂
-unfolding predecessors view part
+unfolding predecessors part
 pruned-found q run xs xs₁ xs₂ ix ix₁ ix₂ count size place long e h a b fs s is p l =
-    let room = h .ready .room in
-    let last : take (q .n + 1) ix₁ ≡ predecessors (planned run q) (q .penalty) (q .m) (q .n) = ap (λ (t : State). t .last) (h .state) in
+    let room = h .room in
+    let last : take (q .n + 1) ix₁ ≡ predecessors (planned run q) (q .penalty) (q .m) (q .n) = h .last in
     let rest : ix₂ ≡ take place ix₁ ++ replicate (length ix₁ - place) 0 = cleared-tail is (omega arith) (omega arith) in
     record {
       found = λ _. rest ∙ (rw (p, b, last) refl);

@@ -1,88 +1,162 @@
--- Laws of a step over the lent areas: it makes the next state of the recurrence and leaves the areas ready for the next t; and how the areas begin and end. Assumes nothing.
-use Prim.Native.Nat.{ℕ, zero, suc, _+_, _-_, _*_, _≤_, _<_}
-use mathlib.Core.Bool.{Bool}
+-- Laws of a step over the lent areas: it makes the next state of the recurrence; and how the areas begin. Assumes nothing.
+use Prim.Native.Nat.{ℕ, suc, _+_, _-_, _*_, _≤_, _<_}
 use mathlib.Core.Path.{_≡_, refl, sym, ap, _∙_, subst}
 use mathlib.Core.List.{List, [], _∷_, _++_}
+use mathlib.Core.Logic.{_≢_}
 use native.Mathlib.Omega.{arith}
-use native.Mathlib.Nat.{not-suc-le-zero, le-of-suc-le-suc}
-use lib.ListN.{length, getD, set, replicate, length-set}
-use lib.Ieee.{Float, neg}
-use Rattle.floats.specs.Numbers.{_+ᶠ_, +0}
-use Rattle.readings.specs.Parts.{part, tab}
-use Rattle.readings.proofs.PartLaws.{part-front, part-length, part-below, part-above, push, store, frame-refl, frame-set}
-use Rattle.areas.specs.Cleared.{Cleared}
-use Rattle.areas.proofs.ClearedLaws.{cleared-part}
-use Rattle.sums.specs.EachChannel.{RanEach}
-use Rattle.sums.proofs.ChannelLaws.{fits, sums-kept}
+use lib.ListN.{length, getD, set, length-set}
+use lib.Seq.{getD-set-other, getD-set-same}
+use lib.Ieee.{Float, nan}
+use Rattle.floats.specs.Numbers.{_+ᶠ_}
+use Rattle.readings.specs.Parts.{part}
+use Rattle.readings.proofs.PartLaws.{part-at, part-length, part-front, part-above, push, store}
+use Rattle.sums.proofs.ChannelLaws.{mul-room}
 use Rattle.recurrence.specs.declared.Best.{Best}
 use Rattle.recurrence.specs.Minimum.{keptTo}
-use Rattle.recurrence.proofs.All.{All, all-at, all-last, all-map, all-from}
-use Rattle.recurrence.proofs.MinimumLaws.{kept-all}
 use Rattle.inequality.specs.declared.Plan.{Plan}
 use Rattle.inequality.specs.Inequality.{State, partOf, bestAt, staysAt, stepOf, stateAfter}
-use Rattle.inequality.specs.Held.{Room, planned, view, Below, Scanned, Retained, Ready, Holds, Stepped}
-use Rattle.inequality.proofs.ScanLaws.{below-stays}
+use Rattle.inequality.specs.Held.{Room, planned, runOf, Below, Rising, Parted, Written, weightBy, lowestBy, stayCount, keptBy, Retained, RetainedRuns, Joined, Shown, Holds}
+use Rattle.inequality.proofs.WrittenLaws.{at-front, at-back, written-all}
+use Rattle.inequality.proofs.KeepingLaws.{run-room}
+use Rattle.inequality.proofs.CandidateLaws.{kept-below, rising-next, below-next, next-at}
+use Rattle.inequality.proofs.DecisionLaws.{part-of, best-of, kept-is, kept-at}
 
-state-eq : {f f′ : List Float} {l l′ c c′ : List ℕ} → f ≡ f′ → l ≡ l′ → c ≡ c′ → _≡_ {A = State} (record { f = f; last = l; candidates = c }) (record { f = f′; last = l′; candidates = c′ })
-state-eq p q r = λ i. record { f = p i; last = q i; candidates = r i }
+-- ---- what a step has done: parts, the best, those that stay, and t behind them
+pub record Done (q : Plan) (xs x₁ x₂ x₃ : List Float) (ix ix₂ : List ℕ) (count t old kept : ℕ) (b : Best) : Type 0 where
+  pub early : t ≤ q .n
+  pub parted : Parted (q .m) t (part ix (q .c) count) old
+  pub weighed : Written xs x₁ (q .p) (weightBy q xs ix old t) count
+  pub best : b ≡ lowestBy q x₁ ix old
+  pub runs : RetainedRuns (b .cost +ᶠ q .penalty) q x₁ x₂ count (2 * q .channels + 1)
+  pub indices : Retained (b .cost +ᶠ q .penalty) x₁ (q .p) 0 (set ix t (b .tau)) ix₂ (q .c) count count kept
+  pub joined : Joined q x₂ x₃ kept t (2 * q .channels)
 
--- the areas after a step at t: F(t) and its predecessor stored, the candidates that stay in front, t after them
-pub step-view : (run : List Float) (q : Plan) (xs xs₁ : List Float) (ix ix₂ : List ℕ) (count t kept : ℕ) (b : Best) → Room q (length xs) (length ix) → t ≤ q .n → count ≤ q .n
-    → Scanned run q xs xs₁ (part ix (q .c) count) t count b
-    → Retained (b .cost +ᶠ q .penalty) (part (set xs₁ (q .f + t) (b .cost)) (q .p) count) (part (set ix t (b .tau)) (q .c) count) (set ix t (b .tau)) ix₂ (q .c) count count kept
-    → view q (set xs₁ (q .f + t) (b .cost)) (set ix₂ (q .c + kept) t) (kept + 1) ≡ stepOf (planned run q) (q .penalty) (q .m) t (view q xs ix count)
-unfolding view stepOf bestAt staysAt
-step-view run q xs xs₁ ix ix₂ count t kept b room ht hc sc kp =
-    let xs₂ = set xs₁ (q .f + t) (b .cost) in
-    let ix₁ = set ix t (b .tau) in
-    let cs = part ix (q .c) count in
-    let f = part xs (q .f) (q .n + 1) in
-    let weight : ℕ → Float = λ x. partOf (planned run q) (q .m) f t x in
-    let long : length cs ≡ count = part-length ix (q .c) count (omega arith) in
-    let few : kept ≤ count = kp .few in
-    let long₂ : length ix₂ ≡ length ix = kp .frame .long ∙ length-set ix t (b .tau) in
-    let f₁ : part xs₁ (q .f) (q .n + 1) ≡ f = part-front (q .f) (q .n + 1) (sc .frame) (omega arith) in
-    let ps : part xs₂ (q .p) count ≡ tab (λ i. weight (getD cs i 0)) count = part-below xs₁ (q .p) count (q .f + t) (b .cost) (omega arith) ∙ sc .parts in
-    let same : part ix₁ (q .c) count ≡ cs = part-below ix (q .c) count t (b .tau) (omega arith) in
-    rw long
-    (state-eq
-    (store xs₁ (q .f) (q .n + 1) t (q .f + t) (b .cost) refl (omega arith) ∙ (rw (f₁, sc .best) refl))
-    (part-above ix₂ 0 (q .n + 1) (q .c + kept) t (omega arith)
-    ∙ part-front 0 (q .n + 1) (kp .frame) (omega arith)
-    ∙ store ix 0 (q .n + 1) t t (b .tau) (omega arith) (omega arith)
-    ∙ (rw (sc .best) refl))
-    (push ix₂ (q .c) kept (q .c + kept) t refl (omega arith)
-    ∙ (rw (kp .front, ps, same, below-stays (b .cost +ᶠ q .penalty) weight cs count count (omega arith), sc .best) refl)))
+module _ (run : List Float) (q : Plan) (xs x₁ x₂ x₃ : List Float) (ix ix₂ : List ℕ) (count t old kept : ℕ) (b : Best) (s : State) (h : Shown run q xs ix count t s) (d : Done q xs x₁ x₂ x₃ ix ix₂ count t old kept b) where
+  abbrev w : ℕ
+  w = q .n + 1
 
--- the candidates that stay, and t, are below t + 1
-below-next : (stays : ℕ → Bool) (cs : List ℕ) (t j : ℕ) → Below t cs → j ≤ length cs → Below (t + 1) (keptTo stays cs j ++ (t ∷ []))
-below-next stays cs t j b h =
-    let stay : All (λ x. x < t) (keptTo stays cs j) = kept-all stays cs j (all-from cs (b .below)) h in
-    let all : All (λ x. x < t + 1) (keptTo stays cs j ++ (t ∷ [])) = all-last (all-map (λ x l. omega arith) stay) (omega arith) in
-    record { below = λ i l. all-at i all l }
+  -- those that stay
+  abbrev news : List ℕ
+  news = keptTo (staysAt (planned run q) (q .penalty) (q .m) t (s .f) (b .cost)) (s .candidates) (length (s .candidates))
 
-pub stepped : (run : List Float) (q : Plan) (xs xs₁ : List Float) (ix ix₂ : List ℕ) (count t kept : ℕ) (b : Best) → Ready run q xs ix count t → t ≤ q .n
-    → Scanned run q xs xs₁ (part ix (q .c) count) t count b
-    → Retained (b .cost +ᶠ q .penalty) (part (set xs₁ (q .f + t) (b .cost)) (q .p) count) (part (set ix t (b .tau)) (q .c) count) (set ix t (b .tau)) ix₂ (q .c) count count kept
-    → Stepped run q xs ix count t (set xs₁ (q .f + t) (b .cost)) (set ix₂ (q .c + kept) t) (kept + 1)
-unfolding view stepOf
-stepped run q xs xs₁ ix ix₂ count t kept b r ht sc kp =
-    let room = r .room in
-    let few : kept ≤ count = kp .few in
-    let long : length (part ix (q .c) count) ≡ count = part-length ix (q .c) count (omega arith) in
-    let long₁ : length (set xs₁ (q .f + t) (b .cost)) ≡ length xs = length-set xs₁ (q .f + t) (b .cost) ∙ sc .frame .long in
-    let long₂ : length (set ix₂ (q .c + kept) t) ≡ length ix = length-set ix₂ (q .c + kept) t ∙ kp .frame .long ∙ length-set ix t (b .tau) in
-    let state = step-view run q xs xs₁ ix ix₂ count t kept b room ht (omega arith) sc kp in
-    record {
-      ready = record {
-        room = rw (long₁, long₂) room;
-        sums = sums-kept (frame-set (q .f + t) (b .cost) (frame-refl xs₁ (q .f) (q .n + 1)) (omega arith) (omega arith)) (omega arith) (sums-kept (sc .frame) (omega arith) (r .sums));
-        below = rw (ap (λ (s : State). s .candidates) state) (below-next _ (part ix (q .c) count) t (length (part ix (q .c) count)) (r .below) (omega arith));
-        from = omega arith;
-        few = omega arith;
-      };
-      state = state;
-    }
+  many : length (s .candidates) ≡ count
+  many = let room = h .room in let few = h .few in ap length (sym (h .candidates)) ∙ part-length ix (q .c) count (omega (arith, d .early))
+
+  few : count ≤ t
+  few = omega (arith, h .few, h .room .some)
+
+  candidate : (i : ℕ) → i < length (s .candidates) → getD ix (q .c + i) 0 ≡ getD (s .candidates) i 0
+  candidate i l = part-at ix (q .c) count i 0 (omega (arith, many)) ∙ ap (λ (c : List ℕ). getD c i 0) (h .candidates)
+
+  weight : (i : ℕ) → i < length (s .candidates) → getD x₁ (q .p + i) nan ≡ partOf (planned run q) (q .m) (s .f) t (getD (s .candidates) i 0)
+  weight i l = part-of run q xs x₁ ix (s .candidates) (s .f) t old i (h .runs) (d .early) (subst (λ (c : List ℕ). Parted (q .m) t c old) (h .candidates) (d .parted)) (written-all (sym many) (d .weighed)) candidate l
+
+  best : b ≡ bestAt (planned run q) (q .penalty) (q .m) t s
+  best = d .best ∙ best-of run q x₁ ix s t old (subst (λ (c : List ℕ). Parted (q .m) t c old) (h .candidates) (d .parted)) weight candidate
+
+  -- the step by the best that was found
+  stepped-by : stepOf (planned run q) (q .penalty) (q .m) t s ≡ record { f = set (s .f) t (b .cost); last = set (s .last) t (b .tau); candidates = news ++ (t ∷ []) }
+  unfolding stepOf
+  stepped-by =
+      ap (λ (a : Best). record { f = set (s .f) t (a .cost); last = set (s .last) t (a .tau); candidates = keptTo (staysAt (planned run q) (q .penalty) (q .m) t (s .f) (a .cost)) (s .candidates) (length (s .candidates)) ++ (t ∷ []) }) (sym best)
+
+  moved : (i : ℕ) → i < length (s .candidates) → getD (set ix t (b .tau)) (q .c + i) 0 ≡ getD (s .candidates) i 0
+  moved i l = let room = h .room in getD-set-other ix t (q .c + i) (b .tau) 0 (omega (arith, d .early)) ∙ candidate i l
+
+  kept-news : keptBy (b .cost +ᶠ q .penalty) x₁ (q .p) 0 (set ix t (b .tau)) (q .c) count ≡ news
+  unfolding staysAt
+  kept-news =
+      kept-is (b .cost +ᶠ q .penalty) x₁ (q .p) (partOf (planned run q) (q .m) (s .f) t) (set ix t (b .tau)) (q .c) (s .candidates) count (λ i l. weight i (omega (arith, many))) (λ i l. moved i (omega (arith, many)))
+      ∙ ap (keptTo (staysAt (planned run q) (q .penalty) (q .m) t (s .f) (b .cost)) (s .candidates)) (sym many)
+
+  fewer : kept ≤ count
+  fewer = d .indices .few
+
+  long-indices : length ix₂ ≡ length ix
+  long-indices = d .indices .frame .long ∙ length-set ix t (b .tau)
+
+  front-news : part ix₂ (q .c) kept ≡ news
+  front-news = d .indices .front ∙ kept-news
+
+  many-news : length news ≡ kept
+  many-news = let room = h .room in ap length (sym front-news) ∙ part-length ix₂ (q .c) kept (omega (arith, long-indices, fewer, few, d .early))
+
+  -- what a run held of the candidates it holds of those that stay
+  kept-run : (r : ℕ) (g : ℕ → Float) → r < 2 * q .channels + 1 → ((i : ℕ) → i < length (s .candidates) → getD x₁ (r * w + i) nan ≡ g (getD (s .candidates) i 0))
+      → (j : ℕ) → j < kept → getD x₂ (r * w + j) nan ≡ g (getD news j 0)
+  kept-run r g l e j k =
+      part-at x₂ (r * w) (stayCount (b .cost +ᶠ q .penalty) x₁ (q .p) count) j nan (omega (arith, d .indices .many))
+      ∙ ap (λ (c : List Float). getD c j nan) (d .runs .front r l)
+      ∙ kept-at (b .cost +ᶠ q .penalty) x₁ (q .p) g x₁ (r * w) (set ix t (b .tau)) (q .c) count j (λ i m. e i (omega (arith, many)) ∙ ap g (sym (moved i (omega (arith, many))))) (rw kept-news (omega (arith, many-news)))
+      ∙ ap (λ (c : List ℕ). g (getD c j 0)) kept-news
+
+  -- a place of the runs that nothing moved
+  unmoved : (r i : ℕ) → r < 2 * q .channels → count ≤ i → i ≤ q .n → i ≢ kept → getD x₃ (r * w + i) nan ≡ getD xs (r * w + i) nan
+  unmoved r i l m n o =
+      let room = h .room in
+      d .joined .rest r i l n o
+      ∙ d .runs .rest r i (omega arith) m n
+      ∙ at-front (r * w + i) nan (d .weighed .frame) (omega (arith, run-room q _ _ r room (omega arith)))
+
+  last-place : (r i : ℕ) → r < 2 * q .channels → i ≤ q .n → getD (set x₃ (q .f + kept) (b .cost)) (r * w + i) nan ≡ getD x₃ (r * w + i) nan
+  last-place r i l m = let room = h .room in getD-set-other x₃ (q .f + kept) (r * w + i) (b .cost) nan (omega (arith, mul-room r (2 * q .channels) w l))
+
+  run-next : (r j : ℕ) → r < 2 * q .channels → j < length (news ++ (t ∷ [])) → getD (set x₃ (q .f + kept) (b .cost)) (r * w + j) nan ≡ runOf run (q .n) r (getD (news ++ (t ∷ [])) j 0)
+  run-next r j l m =
+      let room = h .room in
+      next-at (λ i tau. getD (set x₃ (q .f + kept) (b .cost)) (r * w + i) nan ≡ runOf run (q .n) r tau) news t
+      (λ i k. last-place r i l (omega (arith, many-news, fewer, few, d .early))
+      ∙ d .joined .rest r i l (omega (arith, many-news, fewer, few, d .early)) (omega (arith, many-news))
+      ∙ kept-run r (runOf run (q .n) r) (omega arith) (λ i g. at-front (r * w + i) nan (d .weighed .frame) (omega (arith, run-room q _ _ r room (omega arith), many, few, d .early)) ∙ h .runs .front r i l g) i (omega (arith, many-news)))
+      (subst (λ (i : ℕ). getD (set x₃ (q .f + kept) (b .cost)) (r * w + i) nan ≡ runOf run (q .n) r t) (sym many-news)
+      (last-place r kept l (omega (arith, fewer, few, d .early))
+      ∙ d .joined .here r l
+      ∙ d .runs .rest r t (omega arith) few (d .early)
+      ∙ at-front (r * w + t) nan (d .weighed .frame) (omega (arith, run-room q _ _ r room (omega arith), d .early))
+      ∙ h .runs .left r t l (omega arith) (d .early)))
+      j m
+
+  long-floats : length x₃ ≡ length xs
+  long-floats = d .joined .frame .long ∙ d .runs .frame .long ∙ d .weighed .frame .long
+
+  least-next : (j : ℕ) → j < length (news ++ (t ∷ [])) → getD (set x₃ (q .f + kept) (b .cost)) (q .f + j) nan ≡ getD (set (s .f) t (b .cost)) (getD (news ++ (t ∷ [])) j 0) nan
+  least-next j m =
+      let room = h .room in
+      next-at (λ i tau. getD (set x₃ (q .f + kept) (b .cost)) (q .f + i) nan ≡ getD (set (s .f) t (b .cost)) tau nan) news t
+      (λ i k. getD-set-other x₃ (q .f + kept) (q .f + i) (b .cost) nan (omega (arith, many-news))
+      ∙ at-back (q .f + i) nan (d .joined .frame) (omega arith)
+      ∙ ap (λ (c : ℕ). getD x₂ (c + i) nan) (room .f)
+      ∙ kept-run (2 * q .channels) (λ tau. getD (s .f) tau nan) (omega arith)
+      (λ i g. at-front (2 * q .channels * w + i) nan (d .weighed .frame) (omega (arith, many, few, d .early)) ∙ ap (λ (c : ℕ). getD xs (c + i) nan) (sym (room .f)) ∙ h .runs .least i g) i (omega (arith, many-news))
+      ∙ sym (getD-set-other (s .f) t (getD news i 0) (b .cost) nan (omega (arith, kept-below _ (s .candidates) t (h .below) i k))))
+      (rw many-news (getD-set-same x₃ (q .f + kept) (b .cost) nan (omega (arith, long-floats, fewer, few, d .early)) ∙ sym (getD-set-same (s .f) t (b .cost) nan (omega (arith, h .long, d .early)))))
+      j m
+
+  pub stepped : Shown run q (set x₃ (q .f + kept) (b .cost)) (set ix₂ (q .c + kept) t) (kept + 1) (t + 1) (stepOf (planned run q) (q .penalty) (q .m) t s)
+  stepped =
+      let room = h .room in
+      let floats : length (set x₃ (q .f + kept) (b .cost)) ≡ length xs = length-set x₃ (q .f + kept) (b .cost) ∙ long-floats in
+      let indices : length (set ix₂ (q .c + kept) t) ≡ length ix = length-set ix₂ (q .c + kept) t ∙ long-indices in
+      subst (λ (n : State). Shown run q (set x₃ (q .f + kept) (b .cost)) (set ix₂ (q .c + kept) t) (kept + 1) (t + 1) n) (sym stepped-by)
+      (record {
+        room = rw (floats, indices) room;
+        below = below-next _ (s .candidates) t (h .below);
+        rising = rising-next _ (s .candidates) t (h .rising) (h .below);
+        long = length-set (s .f) t (b .cost) ∙ h .long;
+        from = omega (arith, h .from);
+        few = omega (arith, h .few, fewer);
+        candidates = push ix₂ (q .c) kept (q .c + kept) t refl (omega (arith, long-indices, fewer, few, d .early)) ∙ ap (λ (c : List ℕ). c ++ (t ∷ [])) front-news;
+        last =
+            part-above ix₂ 0 (q .n + 1) (q .c + kept) t (omega arith)
+            ∙ part-front 0 (q .n + 1) (d .indices .frame) (omega arith)
+            ∙ store ix 0 (q .n + 1) t t (b .tau) (omega arith) (omega (arith, d .early))
+            ∙ ap (λ (c : List ℕ). set c t (b .tau)) (h .last);
+        runs = record {
+          front = λ r j l m. run-next r j l m;
+          left = λ r i l m n. last-place r i l n ∙ unmoved r i l (omega (arith, few)) n (omega (arith, fewer, few)) ∙ h .runs .left r i l (omega arith) n;
+          least = least-next;
+        };
+      })
 
 state-next : (cost : ℕ → ℕ → Float) (penalty : Float) (m n t : ℕ) → m ≤ t → stateAfter cost penalty m n (t + 1 - m) ≡ stepOf cost penalty m t (stateAfter cost penalty m n (t - m))
 unfolding stateAfter
@@ -91,47 +165,29 @@ state-next cost penalty m n t h =
     let d : m + (t - m) ≡ t = omega arith in
     rw e (rw d refl)
 
-pub holds-next : {run : List Float} {q : Plan} {xs : List Float} {ix : List ℕ} {count t : ℕ} {xs′ : List Float} {ix′ : List ℕ} {count′ : ℕ} → Holds run q xs ix count t
-    → Stepped run q xs ix count t xs′ ix′ count′ → Holds run q xs′ ix′ count′ (t + 1)
-holds-next {run} {q} {xs} {ix} {count} {t} h s =
-    record {
-      ready = s .ready;
-      state = s .state ∙ ap (stepOf (planned run q) (q .penalty) (q .m) t) (h .state) ∙ sym (state-next (planned run q) (q .penalty) (q .m) (q .n) t (h .ready .from));
-    }
+pub holds-next : {run : List Float} {q : Plan} {xs : List Float} {ix : List ℕ} {count t : ℕ} → q .m ≤ t
+    → Shown run q xs ix count (t + 1) (stepOf (planned run q) (q .penalty) (q .m) t (stateAfter (planned run q) (q .penalty) (q .m) (q .n) (t - q .m))) → Holds run q xs ix count (t + 1)
+holds-next {run} {q} {xs} {ix} {count} {t} h s = subst (λ (n : State). Shown run q xs ix count (t + 1) n) (sym (state-next (planned run q) (q .penalty) (q .m) (q .n) t h)) s
 
 pub holds-at : {run : List Float} {q : Plan} {xs : List Float} {ix : List ℕ} {count t u : ℕ} → t ≡ u → Holds run q xs ix count t → Holds run q xs ix count u
 holds-at {run} {q} {xs} {ix} {count} {t} {u} e h = subst (λ (k : ℕ). Holds run q xs ix count k) e h
 
--- ---- how the areas begin
-empty-part : (l : List ℕ) (b : ℕ) (rest : List ℕ) → part l b 0 ++ rest ≡ rest
-unfolding part
-empty-part l b rest = refl
+-- ---- what a step's calls ask
+pub count-few : {run : List Float} {q : Plan} {xs : List Float} {ix : List ℕ} {count t : ℕ} {s : State} → Shown run q xs ix count t s → count ≤ t
+count-few h = omega (arith, h .few, h .room .some)
 
-pub begun : (run : List Float) (q : Plan) (xs xs₁ xs₂ : List Float) (ix ix₁ : List ℕ) (i j z : ℕ) (v : Float) → Room q (length xs) (length ix) → q .channels * q .n ≤ length run
-    → RanEach run (q .n) (q .channels) xs xs₁ → Cleared +0 xs₁ xs₂ (q .f) (q .n + 1) → Cleared 0 ix ix₁ 0 (q .n + 1) → i ≡ q .f → j ≡ q .c → z ≡ 0 → v ≡ neg (q .penalty)
-    → Holds run q (set xs₂ i v) (set ix₁ j z) 1 (q .m)
-unfolding stateAfter view
-begun run q xs xs₁ xs₂ ix ix₁ i j z v room h su fs is e g o n =
-    let fit = fits (length run) (q .n) (q .channels) (length xs) (room .few) (room .short) h (omega arith) in
-    let long₁ : length xs₁ ≡ length xs = su .frame fit .long in
-    let long₂ : length (set xs₂ i v) ≡ length xs = length-set xs₂ i v ∙ fs .frame .long ∙ long₁ in
-    let long : length (set ix₁ j z) ≡ length ix = length-set ix₁ j z ∙ is .frame .long in
-    let none : q .m - q .m ≡ 0 = omega arith in
-    let first : part (set ix₁ j z) (q .c) 1 ≡ z ∷ [] = push ix₁ (q .c) 0 j z (omega arith) (omega arith) ∙ empty-part ix₁ (q .c) (z ∷ []) in
-    let last : part (set ix₁ j z) 0 (q .n + 1) ≡ replicate (q .n + 1) 0 = part-above ix₁ 0 (q .n + 1) j z (omega arith) ∙ cleared-part is (omega arith) in
-    let f : part (set xs₂ i v) (q .f) (q .n + 1) ≡ set (replicate (q .n + 1) +0) 0 (neg (q .penalty)) =
-    store xs₂ (q .f) (q .n + 1) 0 i v (omega arith) (omega arith) ∙ (rw (cleared-part fs (omega arith), n) refl) in
-    record {
-      ready = record {
-        room = rw (long₂, long) room;
-        sums = sums-kept (frame-set i v (fs .frame) (omega arith) (omega arith)) (omega arith) (su .written fit);
-        below = record { below = rw first (λ k l. only k l) };
-        from = omega arith;
-        few = omega arith;
-      };
-      state = rw none (state-eq f last (first ∙ ap (λ (k : ℕ). k ∷ []) o));
-    }
-  where
-    only : (k : ℕ) → k < length (z ∷ []) → getD (z ∷ []) k 0 < q .m
-    only zero l = rw o (room .some)
-    only (suc k) l = absurd (not-suc-le-zero (le-of-suc-le-suc l))
+pub count-room : {run : List Float} {q : Plan} {xs : List Float} {ix : List ℕ} {count t : ℕ} {s : State} → Shown run q xs ix count t s → t ≤ q .n → q .c + count ≤ length ix
+count-room h l = omega (arith, h .few, h .room .some, h .room .c)
+
+pub shown-below : {run : List Float} {q : Plan} {xs : List Float} {ix : List ℕ} {count t : ℕ} {s : State} → Shown run q xs ix count t s → Below t (part ix (q .c) count)
+shown-below {t = t} h = subst (Below t) (sym (h .candidates)) (h .below)
+
+pub shown-rising : {run : List Float} {q : Plan} {xs : List Float} {ix : List ℕ} {count t : ℕ} {s : State} → Shown run q xs ix count t s → Rising (part ix (q .c) count)
+shown-rising h = subst Rising (sym (h .candidates)) (h .rising)
+
+pub old-few : (m t : ℕ) (ix : List ℕ) (b count old : ℕ) → Parted m t (part ix b count) old → b + count ≤ length ix → old ≤ count
+old-few m t ix b count old p h = omega (arith, p .few, part-length ix b count h)
+
+pub room-again : (q : Plan) (lf li lf′ li′ : ℕ) → Room q lf li → lf′ ≡ lf → q .c + (q .n + 1) ≤ li′ → Room q lf′ li′
+room-again q lf li lf′ li′ r e h =
+    record { short = r .short; few = r .few; some = r .some; ripe = r .ripe; f = r .f; p = r .p; floats = rw e (r .floats); last = r .last; c = h }

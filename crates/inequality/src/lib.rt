@@ -6,16 +6,20 @@
 // `specs/Pruned` what is left in the lent areas; that one outcome meets it is proved, and what holds
 // of the predecessors (`proofs/SoundLaws`). `specs/Held` is for the private functions: how the areas
 // hold a state of the recurrence.
+mod keeping;
+mod lowest;
+mod normal;
 mod pruned;
-mod scan;
 mod steps;
+mod weights;
 
 use costs::CostFunction;
 pub use pruned::partition_pruned;
 
-// What is searched, and where it stands: F at `f` of the floats, the parts at `p`, the candidates at
-// `c` of the indices. The predecessors stand at the front of the indices, the sums at that of the
-// floats.
+// What is searched, and where it stands. The indices have the predecessors at their front and the
+// candidates at `c`. The floats have runs of n + 1 places, two for each channel and F's at `f`, and the
+// parts at `p`. A run holds at its front what belongs to the candidates, by their places, so that a
+// loop over them goes from place to place; from t on the sums stand by index, for the steps to come.
 struct Plan {
     pub cost: CostFunction,
     pub penalty: f64,

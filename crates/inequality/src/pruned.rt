@@ -18,11 +18,9 @@ fn begin(run: &[f64], floats: &mut [f64], indices: &mut [usize], plan: Plan)
 {
     let f = plan.f;
     let c = plan.c;
-    let w = plan.n + 1;
     channel_sums(run, plan.n, plan.channels, floats);
-    clear_floats(floats, f, w);
     floats[f] = -plan.penalty;
-    clear_indices(indices, 0, w);
+    clear_indices(indices, 0, plan.n + 1);
     indices[c] = 0;
 }
 
@@ -42,7 +40,7 @@ pub fn partition_pruned(
 {
     if search_fits(run.len(), n, channels, m, floats.len(), indices.len()) {
         let w = n + 1;
-        let f = channels * (2 * w);
+        let f = 2 * channels * w;
         let plan = Plan {
             cost,
             penalty,

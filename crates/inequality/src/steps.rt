@@ -1,12 +1,14 @@
 // The steps of the search.
-ghost use Prim.Native.Nat.{_+_, _*_, _≤_};
-ghost use lib.ListN.{length};
-ghost use Rattle.inequality.specs.Held.{Room, Ready, Stepped, Holds};
+ghost use Prim.Native.Nat.{_+_, _≤_};
+ghost use Rattle.inequality.specs.Held.{Holds};
 use crate::Plan;
-use crate::scan::retain;
-use crate::scan::scan;
+use crate::keeping::join_runs;
+use crate::keeping::retain;
+use crate::lowest::lowest;
+use crate::weights::old_count;
+use crate::weights::weigh;
 
-// The step at t: how many candidates live after it.
+// The step at t: how many candidates live after it. The readings go along for the contract alone.
 fn step(
     run: &[f64],
     floats: &mut [f64],
@@ -15,15 +17,18 @@ fn step(
     count: usize,
     t: usize,
 ) -> usize
-    requires { ⌜ Ready (now run) plan (now floats) (now indices) count t × (t ≤ plan .n) ⌝ }
-    ensures { λ r. ⌜ Stepped (now (run .entry)) plan (now (floats .entry)) (now (indices .entry)) count t (now (floats .exit)) (now (indices .exit)) r ⌝ }
+    requires { ⌜ Holds (now run) plan (now floats) (now indices) count t × (t ≤ plan .n) ⌝ }
+    ensures { λ r. ⌜ Holds (now (run .entry)) plan (now (floats .exit)) (now (indices .exit)) r (t + 1) ⌝ }
 {
-    let best = scan(run, floats, indices, plan, count, t);
+    let old = old_count(indices, plan, count, t);
+    weigh(floats, indices, plan, old, count, t);
+    let best = lowest(floats, indices, plan, old);
     let f = plan.f;
     let c = plan.c;
-    floats[f + t] = best.cost;
     indices[t] = best.tau;
     let kept = retain(floats, indices, plan, count, best.cost + plan.penalty);
+    join_runs(floats, plan, kept, t);
+    floats[f + kept] = best.cost;
     indices[c + kept] = t;
     kept + 1
 }

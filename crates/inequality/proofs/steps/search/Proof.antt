@@ -1,4 +1,4 @@
-use mathlib.Core.Path.{_≡_, _∙_}
+use mathlib.Core.Path.{_≡_, refl, _∙_}
 use Prim.Native.Nat.{_≤_, _-_, _+_}
 use native.Mathlib.Omega.{arith}
 use native.Mathlib.Nat.{le-antisymm}
@@ -7,7 +7,7 @@ use borrow.Author.Needs.{needs}
 use Rattle.inequality.proofs.steps.search.Statement.{statement}
 use Rattle.inequality.proofs.steps.search.Tie as tie
 use Rattle.inequality.specs.Held.{Holds}
-use Rattle.inequality.proofs.StepLaws.{holds-next, holds-at}
+use Rattle.inequality.proofs.StepLaws.{holds-at}
 
 abbrev Inv-loop : tie.InvT-loop
 Inv-loop run floats₀ indices₀ plan n count₀ t₀ floats indices count t = (t ≤ plan .n + 1) × (length floats ≡ length floats₀) × (length indices ≡ length indices₀) × Holds run plan floats indices count t
@@ -16,10 +16,10 @@ abbrev μ-loop : tie.MeasureT-loop
 μ-loop run floats₀ indices₀ plan n count₀ t₀ floats indices count t = plan .n + 1 - t
 
 loop-holds : tie.Need-loop-holds Inv-loop μ-loop
-loop-holds c = search needs
+loop-holds c = (omega (arith, c .before .before .before .pre .1), refl, refl, c .before .before .before .pre .0)
 
 step-requires : tie.Need-step-requires Inv-loop μ-loop
-step-requires c κs = search needs
+step-requires c κs = (c .before .before .before .loop .inv .3, c .before .before .loop-test .taken)
 
 add-t : tie.Need-add-t Inv-loop μ-loop
 add-t c = search needs
@@ -28,10 +28,7 @@ loop-less : tie.Need-loop-less Inv-loop μ-loop
 loop-less c = search needs
 
 loop-again : tie.Need-loop-again Inv-loop μ-loop
-loop-again c =
-    let l = c .before .before .before .before .before .before .before .before .loop in
-    let s = c .before .before .before .before .step in
-    (omega arith, s .kept .1 .0 ∙ l .inv .1, s .kept .1 .1 .0 ∙ l .inv .2, holds-next (l .inv .3) (s .ensures))
+loop-again c = let l = c .before .before .before .before .before .before .before .before .loop in let s = c .before .before .before .before .step in (omega arith, s .kept .1 .0 ∙ l .inv .1, s .kept .1 .1 .0 ∙ l .inv .2, s .ensures)
 
 same-length : tie.Need-same-length Inv-loop μ-loop
 same-length c = search needs
