@@ -17,7 +17,9 @@ use Rattle.costs.specs.Costs.{segmentOf, segmentAbout, costOf, costTo}
 use Rattle.recurrence.specs.Minimum.{scanTo, keptTo}
 use Rattle.inequality.specs.declared.Plan.{Plan}
 use Rattle.inequality.specs.Inequality.{State, oldEnough, partOf, bestAt, price}
-use Rattle.inequality.specs.Held.{planned, runOf, Parted, Written, segmentBy, costBy, weightBy, lowestBy, stays, keptBy, Runs}
+use Rattle.inequality.specs.Held.{planned, runOf, Runs}
+use Rattle.inequality.specs.Weights.{Parted, Written, segmentBy, costBy, weightBy, lowestBy}
+use Rattle.inequality.specs.Staying.{stays, keptBy}
 use Rattle.inequality.proofs.WrittenLaws.{written-at}
 
 -- ---- the runs of a channel

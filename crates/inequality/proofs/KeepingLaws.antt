@@ -15,7 +15,8 @@ use Rattle.readings.specs.Parts.{part, Frame}
 use Rattle.readings.proofs.PartLaws.{part-suc, part-front, part-above, push, frame-refl, frame-set, frame-wide, frame-trans}
 use Rattle.sums.proofs.ChannelLaws.{mul-more, mul-room}
 use Rattle.inequality.specs.declared.Plan.{Plan}
-use Rattle.inequality.specs.Held.{Room, stays, Staying, stayCount, keptBy, Retained, RetainedRuns, Joined}
+use Rattle.inequality.specs.Held.{Room}
+use Rattle.inequality.specs.Staying.{stays, Staying, stayCount, keptBy, Retained, RetainedRuns, Joined}
 use Rattle.inequality.proofs.WrittenLaws.{at-front, at-back}
 
 -- ---- the runs of the sums, and F's with them, end before the parts

@@ -11,7 +11,7 @@ use Rattle.floats.specs.Numbers.{_+ᶠ_, _<ᶠ_}
 use Rattle.recurrence.specs.declared.Best.{Best}
 use Rattle.recurrence.specs.Minimum.{betterOf}
 use Rattle.inequality.specs.declared.Plan.{Plan}
-use Rattle.inequality.specs.Held.{lowestBy}
+use Rattle.inequality.specs.Weights.{lowestBy}
 
 pub lowest-more : (q : Plan) (xs : List Float) (ix : List ℕ) (j : ℕ) (b : Best) (total : Float) (tau : ℕ) → b ≡ lowestBy q xs ix j
     → total ≡ getD xs (q .p + j) nan +ᶠ q .penalty → tau ≡ getD ix (q .c + j) 0 → betterOf b total tau ≡ lowestBy q xs ix (j + 1)

@@ -15,7 +15,9 @@ use Rattle.recurrence.specs.declared.Best.{Best}
 use Rattle.recurrence.specs.Minimum.{keptTo}
 use Rattle.inequality.specs.declared.Plan.{Plan}
 use Rattle.inequality.specs.Inequality.{State, partOf, bestAt, staysAt, stepOf, stateAfter}
-use Rattle.inequality.specs.Held.{Room, planned, runOf, Below, Rising, Parted, Written, weightBy, lowestBy, stayCount, keptBy, Retained, RetainedRuns, Joined, Shown, Holds}
+use Rattle.inequality.specs.Held.{Room, planned, runOf, Below, Rising, Shown, Holds}
+use Rattle.inequality.specs.Weights.{Parted, Written, weightBy, lowestBy}
+use Rattle.inequality.specs.Staying.{stayCount, keptBy, Retained, RetainedRuns, Joined}
 use Rattle.inequality.proofs.WrittenLaws.{at-front, at-back, written-all}
 use Rattle.inequality.proofs.KeepingLaws.{run-room}
 use Rattle.inequality.proofs.CandidateLaws.{kept-below, rising-next, below-next, next-at}

@@ -1,3 +1,5 @@
 pub mod Inequality
 pub mod Pruned
 pub mod Held
+pub mod Weights
+pub mod Staying

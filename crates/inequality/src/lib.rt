@@ -4,8 +4,9 @@
 //
 // `partition_pruned` asks nothing of its caller. `specs/Inequality` has the recurrence,
 // `specs/Pruned` what is left in the lent areas; that one outcome meets it is proved, and what holds
-// of the predecessors (`proofs/SoundLaws`). `specs/Held` is for the private functions: how the areas
-// hold a state of the recurrence.
+// of the predecessors (`proofs/SoundLaws`). The others are for the private functions: `specs/Held` how
+// the areas hold a state of the recurrence, `specs/Weights` the parts that they give, `specs/Staying`
+// the candidates that stay.
 mod keeping;
 mod lowest;
 mod normal;

@@ -5,7 +5,7 @@ ghost use Prim.Native.Nat.{_+_, _≤_, _<_};
 ghost use lib.ListN.{length, getD};
 ghost use lib.Ieee.{nan};
 ghost use Rattle.floats.specs.Numbers.{_+ᶠ_, _<ᶠ_};
-ghost use Rattle.inequality.specs.Held.{lowestBy};
+ghost use Rattle.inequality.specs.Weights.{lowestBy};
 use crate::Plan;
 use crate::weights::float_at;
 use crate::weights::index_at;

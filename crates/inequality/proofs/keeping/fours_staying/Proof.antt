@@ -4,7 +4,7 @@ use native.Mathlib.Omega.{arith}
 use borrow.Author.Needs.{needs}
 use Rattle.inequality.proofs.keeping.fours_staying.Statement.{statement}
 use Rattle.inequality.proofs.keeping.fours_staying.Tie as tie
-use Rattle.inequality.specs.Held.{Staying}
+use Rattle.inequality.specs.Staying.{Staying}
 use Rattle.inequality.proofs.KeepingLaws.{staying-none, staying-four}
 
 abbrev Inv-loop : tie.InvT-loop

@@ -8,7 +8,7 @@ use Rattle.inequality.proofs.keeping.join_runs.Tie as tie
 use mathlib.Core.Path.{subst}
 use native.Mathlib.Nat.{zero-mul}
 use Rattle.sums.proofs.ChannelLaws.{mul-more}
-use Rattle.inequality.specs.Held.{Joined}
+use Rattle.inequality.specs.Staying.{Joined}
 use Rattle.inequality.proofs.KeepingLaws.{joined-none, joined-more}
 use denote.Ref.{now}
 use Rattle.inequality.proofs.KeepingLaws.{run-room}

@@ -5,7 +5,7 @@ use native.Mathlib.Nat.{le-antisymm}
 use borrow.Author.Needs.{needs}
 use Rattle.inequality.proofs.keeping.retain_indices.Statement.{statement}
 use Rattle.inequality.proofs.keeping.retain_indices.Tie as tie
-use Rattle.inequality.specs.Held.{Retained}
+use Rattle.inequality.specs.Staying.{Retained}
 use Rattle.inequality.proofs.KeepingLaws.{retained-from, retained-yes, retained-no, retained-all}
 
 abbrev Inv-loop : tie.InvT-loop

@@ -9,7 +9,7 @@ use Rattle.inequality.proofs.keeping.retain_run.Statement.{statement}
 use Rattle.inequality.proofs.keeping.retain_run.Tie as tie
 use denote.Ref.{now}
 use Rattle.floats.specs.Numbers.{_<ᶠ_}
-use Rattle.inequality.specs.Held.{Retained}
+use Rattle.inequality.specs.Staying.{Retained}
 use Rattle.inequality.proofs.WrittenLaws.{at-back}
 use Rattle.inequality.proofs.KeepingLaws.{retained-from, retained-yes, retained-no, retained-all}
 

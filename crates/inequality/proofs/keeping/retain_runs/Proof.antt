@@ -10,7 +10,7 @@ use mathlib.Core.Path.{subst}
 use native.Mathlib.Nat.{zero-mul}
 use denote.Ref.{now}
 use Rattle.sums.proofs.ChannelLaws.{mul-more}
-use Rattle.inequality.specs.Held.{RetainedRuns}
+use Rattle.inequality.specs.Staying.{RetainedRuns}
 use Rattle.inequality.proofs.WrittenLaws.{at-back}
 use Rattle.inequality.proofs.KeepingLaws.{runs-none, runs-more, staying-kept}
 use Rattle.inequality.proofs.KeepingLaws.{run-room}

@@ -8,7 +8,7 @@ use Rattle.inequality.proofs.lowest.better_to.Statement.{statement}
 use Rattle.inequality.proofs.lowest.better_to.Tie as tie
 use denote.Ref.{now}
 use Rattle.floats.specs.Numbers.{_+ᶠ_}
-use Rattle.inequality.specs.Held.{lowestBy}
+use Rattle.inequality.specs.Weights.{lowestBy}
 use Rattle.inequality.proofs.LowestLaws.{lowest-more}
 
 abbrev Inv-loop : tie.InvT-loop

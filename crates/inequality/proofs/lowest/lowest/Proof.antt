@@ -4,7 +4,7 @@ use native.Mathlib.Omega.{arith}
 use borrow.Author.Needs.{needs}
 use Rattle.inequality.proofs.lowest.lowest.Statement.{statement}
 use Rattle.inequality.proofs.lowest.lowest.Tie as tie
-use Rattle.inequality.specs.Held.{lowestBy}
+use Rattle.inequality.specs.Weights.{lowestBy}
 
 abbrev Inv-loop : tie.InvT-loop
 Inv-loop floats indices plan old best₀ j₀ best j = (j ≤ old) × (best ≡ lowestBy plan floats indices j)

@@ -9,7 +9,7 @@ use Rattle.inequality.proofs.normal.add_normal.Tie as tie
 use denote.Ref.{now}
 use borrow.Rule.Slice.PartMut.{same-len-mid}
 use Rattle.costs.specs.declared.CostFunction.the-variants.{Normal}
-use Rattle.inequality.specs.Held.{Written, added}
+use Rattle.inequality.specs.Weights.{Written, added}
 use Rattle.inequality.proofs.WrittenLaws.{written-none, written-all}
 use Rattle.inequality.proofs.WeightLaws.{block-more}
 use Rattle.inequality.proofs.WeightLaws.{below-fewer, front-length}

@@ -9,7 +9,7 @@ use Rattle.inequality.proofs.normal.put.Statement.{statement}
 use Rattle.inequality.proofs.normal.put.Tie as tie
 use denote.Ref.{now}
 use Rattle.floats.specs.Numbers.{_+ᶠ_, _*ᶠ_}
-use Rattle.inequality.specs.Held.{Written, lengthBy}
+use Rattle.inequality.specs.Weights.{Written, lengthBy}
 use Rattle.inequality.proofs.WrittenLaws.{at-back, written-none, written-more, written-all}
 use Rattle.inequality.proofs.WeightLaws.{candidate-below}
 

@@ -5,7 +5,7 @@ use Rattle.inequality.proofs.normal.raised.Tie as tie
 use lib.Ieee.{nanBits, ofBits}
 use Rattle.floats.specs.Numbers.{ratio}
 use Rattle.costs.specs.Costs.{smallestNormal}
-use Rattle.inequality.specs.Held.{raised}
+use Rattle.inequality.specs.Weights.{raised}
 
 float-from-bits-result : tie.Need-float-from-bits-result
 unfolding nanBits

@@ -7,7 +7,7 @@ use borrow.Author.Needs.{needs}
 use Rattle.inequality.proofs.normal.vary.Statement.{statement}
 use Rattle.inequality.proofs.normal.vary.Tie as tie
 use denote.Ref.{now}
-use Rattle.inequality.specs.Held.{Written, varianceBy}
+use Rattle.inequality.specs.Weights.{Written, varianceBy}
 use Rattle.inequality.proofs.WrittenLaws.{written-none, written-more, written-all, written-whole}
 use Rattle.inequality.proofs.WeightLaws.{variance-here, candidate-below}
 

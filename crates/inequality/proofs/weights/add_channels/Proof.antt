@@ -10,7 +10,7 @@ use denote.Ref.{now}
 use mathlib.Core.Path.{subst}
 use lib.Ieee.{ofBits}
 use native.Mathlib.Nat.{zero-mul, one-mul}
-use Rattle.inequality.specs.Held.{Written, costBy}
+use Rattle.inequality.specs.Weights.{Written, costBy}
 use Rattle.inequality.proofs.WeightLaws.{channel-room, twice-add, channels-none, channels-more, channels-since, runs-small}
 use Rattle.sums.proofs.ChannelLaws.{sums-small}
 

@@ -7,7 +7,7 @@ use Rattle.inequality.proofs.weights.add_l2.Statement.{statement}
 use Rattle.inequality.proofs.weights.add_l2.Tie as tie
 use denote.Ref.{now}
 use Rattle.costs.specs.declared.CostFunction.the-variants.{L2}
-use Rattle.inequality.specs.Held.{Written, added}
+use Rattle.inequality.specs.Weights.{Written, added}
 use Rattle.inequality.proofs.WrittenLaws.{written-none, written-more, written-all}
 use Rattle.inequality.proofs.WeightLaws.{segment-read, added-one, candidate-below}
 

@@ -9,7 +9,7 @@ use Rattle.inequality.proofs.weights.add_least.Statement.{statement}
 use Rattle.inequality.proofs.weights.add_least.Tie as tie
 use mathlib.Core.Path.{ap₂}
 use Rattle.floats.specs.Numbers.{_+ᶠ_}
-use Rattle.inequality.specs.Held.{Written}
+use Rattle.inequality.specs.Weights.{Written}
 use Rattle.inequality.proofs.WrittenLaws.{at-front, at-back, written-none, written-more, written-all}
 
 abbrev Inv-loop : tie.InvT-loop

@@ -5,7 +5,7 @@ use native.Mathlib.Nat.{le-antisymm}
 use borrow.Author.Needs.{needs}
 use Rattle.inequality.proofs.weights.fill.Statement.{statement}
 use Rattle.inequality.proofs.weights.fill.Tie as tie
-use Rattle.inequality.specs.Held.{Written}
+use Rattle.inequality.specs.Weights.{Written}
 use Rattle.inequality.proofs.WrittenLaws.{written-none, written-more, written-all}
 
 abbrev Inv-loop : tie.InvT-loop

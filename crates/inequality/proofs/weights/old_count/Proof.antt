@@ -14,7 +14,7 @@ use Rattle.inequality.specs.Inequality.{oldEnough}
 use Rattle.inequality.proofs.WeightLaws.{parted-here, parted-none, young-more}
 use native.Mathlib.Nat.{lt-irrefl, lt-of-lt-of-le}
 use mathlib.Core.Path.{subst}
-use Rattle.inequality.specs.Held.{Parted}
+use Rattle.inequality.specs.Weights.{Parted}
 use Rattle.inequality.proofs.WeightLaws.{candidate-at, candidate-below}
 
 abbrev Inv-loop : tie.InvT-loop

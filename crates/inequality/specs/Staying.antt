@@ -1,0 +1,49 @@
+-- The candidates that stay, and what the runs of the floats hold of them, for the private functions. Definitions only.
+use Prim.Native.Nat.{ℕ, zero, suc, _+_, _*_, _≤_, _<_}
+use mathlib.Core.Path.{_≡_}
+use mathlib.Core.Logic.{_≢_}
+use mathlib.Core.Bool.{Bool, true, cond}
+use mathlib.Core.List.{List, [], _∷_, _++_}
+use lib.ListN.{getD}
+use lib.Ieee.{Float, nan}
+use Rattle.floats.specs.Numbers.{_<ᶠ_}
+use Rattle.readings.specs.Parts.{part, Frame}
+use Rattle.inequality.specs.declared.Plan.{Plan}
+
+-- the part at place j is below the bound
+abbrev pub stays : Float → List Float → ℕ → ℕ → Bool
+stays bound xs p j = getD xs (p + j) nan <ᶠ bound
+
+-- all of the first j are
+pub record Staying (bound : Float) (xs : List Float) (p j : ℕ) : Type 0 where
+  pub stay : (i : ℕ) → i < j → stays bound xs p i ≡ true
+
+-- how many of the first j are
+unfoldable pub stayCount : Float → List Float → ℕ → ℕ → ℕ
+stayCount bound xs p zero = 0
+stayCount bound xs p (suc j) = cond (stays bound xs p j) (suc (stayCount bound xs p j)) (stayCount bound xs p j)
+
+-- of the first j values from b on those whose part is below the bound
+unfoldable pub keptBy : {A : Type 0} → Float → List Float → ℕ → A → List A → ℕ → ℕ → List A
+keptBy bound xs p d values b zero = []
+keptBy bound xs p d values b (suc j) = cond (stays bound xs p j) (keptBy bound xs p d values b j ++ (getD values (b + j) d ∷ [])) (keptBy bound xs p d values b j)
+
+-- i of count values have been looked at, and those below the bound moved to the front, in order
+pub record Retained {A : Type 0} (bound : Float) (xs : List Float) (p : ℕ) (d : A) (values values′ : List A) (b count i kept : ℕ) : Type 0 where
+  pub many : kept ≡ stayCount bound xs p i
+  pub few : kept ≤ i
+  pub front : part values′ b kept ≡ keptBy bound xs p d values b i
+  pub rest : (j : ℕ) → i ≤ j → j < count → getD values′ (b + j) d ≡ getD values (b + j) d
+  pub frame : Frame values values′ b count
+
+-- in each of the first runs of the floats those that stay have moved to the front, and what is behind the candidates is as it was
+pub record RetainedRuns (bound : Float) (q : Plan) (xs xs′ : List Float) (count runs : ℕ) : Type 0 where
+  pub front : (r : ℕ) → r < runs → part xs′ (r * (q .n + 1)) (stayCount bound xs (q .p) count) ≡ keptBy bound xs (q .p) nan xs (r * (q .n + 1)) count
+  pub rest : (r i : ℕ) → r < runs → count ≤ i → i ≤ q .n → getD xs′ (r * (q .n + 1) + i) nan ≡ getD xs (r * (q .n + 1) + i) nan
+  pub frame : Frame xs xs′ 0 (runs * (q .n + 1))
+
+-- in each of the first runs what belongs to t stands at a place, and the others are as they were
+pub record Joined (q : Plan) (xs xs′ : List Float) (place t runs : ℕ) : Type 0 where
+  pub here : (r : ℕ) → r < runs → getD xs′ (r * (q .n + 1) + place) nan ≡ getD xs (r * (q .n + 1) + t) nan
+  pub rest : (r i : ℕ) → r < runs → i ≤ q .n → i ≢ place → getD xs′ (r * (q .n + 1) + i) nan ≡ getD xs (r * (q .n + 1) + i) nan
+  pub frame : Frame xs xs′ 0 (runs * (q .n + 1))
