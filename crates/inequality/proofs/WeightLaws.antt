@@ -8,7 +8,7 @@ use mathlib.Core.Logic.{⊎-elim}
 use native.Mathlib.Nat.{eq-or-lt-of-le, le-of-suc-le-suc, not-suc-le-zero, mul-le-mul, mul-comm, mul-assoc, add-mul, zero-mul}
 use borrow.Author.Tests.{lt-ltb, le-ltb, leb-true, leb-false, le-leb}
 use lib.Dec.{leb}
-use lib.ListN.{length, getD, take, length-map, List·getD-map}
+use lib.ListN.{length, getD, take, length-map}
 use lib.Seq.{length-take-le}
 use lib.Ieee.{Float, nan}
 use Rattle.floats.specs.Numbers.{_+ᶠ_, _-ᶠ_, _*ᶠ_, _/ᶠ_, _≤ᶠ_, +0, -∞, whole}
@@ -16,6 +16,7 @@ use Rattle.readings.specs.Parts.{part, tab, Frame}
 use Rattle.readings.proofs.PartLaws.{part-at, part-length, tab-length, tab-at, read, frame-refl, frame-trans, frame-wide}
 use Rattle.sums.proofs.ChannelLaws.{mul-more, mul-room}
 use Rattle.elementary.specs.Logarithm.{ln}
+use Rattle.logarithms.proofs.EachLaws.{ln-at}
 use Rattle.costs.specs.Costs.{costOf, l2Cost, smallestNormal, normalCost}
 use Rattle.costs.specs.declared.CostFunction.{CostFunction}
 use Rattle.costs.specs.declared.CostFunction.the-variants.{L2, Normal}
@@ -88,10 +89,6 @@ pub variance-here : (x : List Float) (ix : List ℕ) (w place c t first i tau : 
 unfolding varianceBy lengthBy segmentBy
 variance-here x ix w place c t first i tau a b s q g l v et eg es eq ea eb el ev = ev ∙ (rw (el, eg, es, eq, ea, eb, et) refl)
 
-log-at : (vs : List Float) (i : ℕ) → getD (map ln vs) i nan ≡ ln (getD vs i nan)
-unfolding ln
-log-at vs i = List·getD-map ln vs i nan
-
 -- ---- a block of candidates: the variances, their logarithms, and these onto the parts
 pub block-added : (x y : List Float) (ix : List ℕ) (w place p c t first size : ℕ) (vs ls : List Float) → vs ≡ tab (varianceBy x ix w place c t first) size → ls ≡ map ln vs
     → Written x y (p + first) (λ i. getD x (p + first + i) nan +ᶠ lengthBy ix c t (first + i) *ᶠ getD ls i nan) (length ls) → p + first + size ≤ length y
@@ -102,7 +99,7 @@ block-added x y ix w place p c t first size vs ls ev el r room =
     let here = subst (λ (k : ℕ). Written x y (p + first) (λ i. getD x (p + first + i) nan +ᶠ lengthBy ix c t (first + i) *ᶠ getD ls i nan) k) long r in
     written-by _ nan (here .frame) room
     (λ i h. let e : p + first + i ≡ p + (first + i) = omega arith in
-    let logarithm : getD ls i nan ≡ ln (varianceBy x ix w place c t first i) = ap (λ (l : List Float). getD l i nan) el ∙ log-at vs i ∙ ap (λ (l : List Float). ln (getD l i nan)) ev ∙ ap ln (tab-at (varianceBy x ix w place c t first) size i nan h) in
+    let logarithm : getD ls i nan ≡ ln (varianceBy x ix w place c t first i) = ap (λ (l : List Float). getD l i nan) el ∙ ln-at vs i ∙ ap (λ (l : List Float). ln (getD l i nan)) ev ∙ ap ln (tab-at (varianceBy x ix w place c t first) size i nan h) in
     written-at i nan here h ∙ ap₂ _+ᶠ_ (ap (λ (k : ℕ). getD x k nan) e) (ap (λ (l : Float). lengthBy ix c t (first + i) *ᶠ l) logarithm ∙ raised-cost (segmentBy x w place (first + i) (getD ix (c + (first + i)) 0) t)))
 
 -- the front of a longer list of values, as a slice of it is told
