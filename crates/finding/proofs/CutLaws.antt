@@ -21,8 +21,8 @@ use Rattle.readings.specs.declared.Shaped.the-variants as Shaped
 use Rattle.recurrence.specs.Predecessors.{Sound}
 use Rattle.inequality.specs.Inequality.{price}
 use Rattle.inequality.proofs.SoundLaws.{predecessors-sound}
-use Rattle.functional.specs.Functional.{Task, functional}
-use Rattle.functional.proofs.SoundLaws.{functional-sound}
+use Rattle.dominance.specs.Functional.{Task, functional}
+use Rattle.dominance.proofs.SoundLaws.{functional-sound}
 use Rattle.backtrack.specs.Cuts.{cutsOf}
 use Rattle.backtrack.proofs.CutLaws.{cuts-rise, cut-pieces, cuts-half}
 use Rattle.finding.specs.declared.Searched.{Searched}

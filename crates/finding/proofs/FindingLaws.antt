@@ -31,9 +31,9 @@ use Rattle.recurrence.specs.Predecessors.{Sound}
 use Rattle.inequality.specs.Inequality.{predecessors, price}
 use Rattle.inequality.specs.Pruned.{Pruned}
 use Rattle.inequality.proofs.SoundLaws.{predecessors-sound, predecessors-long}
-use Rattle.functional.specs.Functional.{Task, functional}
-use Rattle.functional.specs.Partitioned.{fitsTask, slotsSuffice, indicesAfter, Partitioned}
-use Rattle.functional.proofs.SoundLaws.{functional-sound, functional-long}
+use Rattle.dominance.specs.Functional.{Task, functional}
+use Rattle.dominance.specs.Partitioned.{fitsTask, slotsSuffice, indicesAfter, Partitioned}
+use Rattle.dominance.proofs.SoundLaws.{functional-sound, functional-long}
 use Rattle.backtrack.specs.Cuts.{cutsOf}
 use Rattle.backtrack.proofs.CutLaws.{front-count, room-front, room-rest}
 use Rattle.finding.specs.declared.Searched.{Searched}

@@ -19,8 +19,8 @@ use Rattle.candidate.specs.Boxes.{ballOf, restrict, isDominated}
 use Rattle.candidate.specs.Balls.{ballsAt, meant, loseInside}
 use Rattle.candidate.specs.Cuts.{cutIn}
 use Rattle.functional.specs.declared.Plan.{Plan}
-use Rattle.functional.specs.declared.Facing.{Facing}
-use Rattle.functional.specs.Functional.{Living, besides, facing, outerBall, innerBall, livingAt, lostTo, restricted, cutBack, winnersTo, rangeBox, born, joinedBy, joinOf}
+use Rattle.dominance.specs.declared.Facing.{Facing}
+use Rattle.dominance.specs.Functional.{Living, besides, facing, outerBall, innerBall, livingAt, lostTo, restricted, cutBack, winnersTo, rangeBox, born, joinedBy, joinOf}
 use Rattle.functional.specs.Held.{task, slotAt, boxAt, facingAt, ballFloats, putBox, putFacing, Mapped, Balls, lostBy, livedAt, lived, BallsOf, Sane, narrowedAt, Remarked, Stored, survivorsTo, Narrowed, Placed, Wide, bornFrom, Borne, Joins}
 use Rattle.functional.proofs.SlotLaws.{slot-long, box-put, balls-beside-box, facing-put, box-beside-facing, balls-beside-facing}
 use Rattle.functional.proofs.BallLaws.{balls-cut}

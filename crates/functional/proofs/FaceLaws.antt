@@ -6,16 +6,15 @@ use native.Mathlib.Omega.{arith}
 use borrow.Author.Tests.{eq-eqb, ne-eqb}
 use lib.ListN.{length, getD}
 use lib.Ieee.{Float, nan}
-use Rattle.floats.specs.Numbers.{_+ᶠ_, _-ᶠ_, _*ᶠ_, _/ᶠ_, +0, whole, ratio}
-use Rattle.floats.specs.Finite.{abs}
+use Rattle.floats.specs.Numbers.{_+ᶠ_, _-ᶠ_, _/ᶠ_, +0, whole}
 use Rattle.sums.specs.EachChannel.{Sums}
 use Rattle.costs.specs.Areas.{segmentAt, areaCost}
 use Rattle.costs.specs.declared.Segment.{Segment}
 use Rattle.costs.specs.declared.CostFunction.the-variants.{L2}
 use Rattle.costs.proofs.AreaLaws.{held-segment, cost-of-run}
 use Rattle.functional.specs.declared.Plan.{Plan}
-use Rattle.functional.specs.declared.Facing.{Facing}
-use Rattle.functional.specs.Functional.{price, centreAlong, besides, facing}
+use Rattle.dominance.specs.declared.Facing.{Facing}
+use Rattle.dominance.specs.Functional.{price, centreAlong, besides, slackOf, facing}
 use Rattle.functional.specs.Held.{Room, task}
 
 pub mean-held : (run : List Float) (q : Plan) (xs : List Float) (channel place a b : ℕ) → Sums run (q .n) (q .channels) xs → channel < q .channels → place ≡ channel * (2 * (q .n + 1))
@@ -39,7 +38,7 @@ unfolding price
 price-held run q xs li lp a b r s h l = cost-of-run L2 a b s h l (r .short) (omega arith) (omega arith)
 
 pub facing-from : (run : List Float) (q : Plan) (f : List Float) (a b : ℕ) (fa fb cost len slack cx cy : Float) → fa ≡ getD f a nan → fb ≡ getD f b nan → cost ≡ price (task run q) a b
-    → len ≡ whole (b - a) → slack ≡ ratio 1 1000000000 *ᶠ (abs fb +ᶠ abs fa +ᶠ abs cost +ᶠ q .penalty) /ᶠ len → cx ≡ centreAlong (task run q) 0 a b
+    → len ≡ whole (b - a) → slack ≡ slackOf fb fa cost (q .penalty) len → cx ≡ centreAlong (task run q) 0 a b
     → cy ≡ besides (task run q) (centreAlong (task run q) 1 a b)
     → _≡_ {A = Facing} (record { cx = cx; cy = cy; outer = (fb -ᶠ fa -ᶠ cost) /ᶠ len +ᶠ slack; inner = (fb -ᶠ fa -ᶠ cost) /ᶠ len -ᶠ slack }) (facing (task run q) f a b)
 unfolding facing

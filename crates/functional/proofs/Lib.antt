@@ -1,6 +1,3 @@
-pub mod Examples
-pub mod SoundLaws
-pub mod PeakLaws
 pub mod SlotLaws
 pub mod FaceLaws
 pub mod BallLaws

@@ -15,8 +15,8 @@ use Rattle.candidate.specs.declared.Candidate.{Candidate}
 use Rattle.candidate.specs.declared.Ball.{Ball}
 use Rattle.candidate.specs.Boxes.{restrict, equals}
 use Rattle.candidate.proofs.StayLaws.{restrict-stays}
-use Rattle.functional.specs.declared.Facing.{Facing}
-use Rattle.functional.specs.Functional.{outerBall}
+use Rattle.dominance.specs.declared.Facing.{Facing}
+use Rattle.dominance.specs.Functional.{outerBall}
 use Rattle.functional.specs.Held.{slotAt, boxAt, facingAt, ballsIn, isMarked, SameBox, narrowedAt, Remark, Remarked, Wide}
 use Rattle.functional.proofs.BoxLaws.{box-by-numbers}
 

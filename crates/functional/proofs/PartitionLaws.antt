@@ -22,14 +22,14 @@ use Rattle.recurrence.proofs.RoomLaws.{and-first, and-second, Series, Roomy, fi
 use Rattle.candidate.specs.declared.Candidate.{Candidate}
 use Rattle.candidate.specs.Balls.{ballsAt}
 use Rattle.functional.specs.declared.Plan.{Plan}
-use Rattle.functional.specs.Functional.{Task, besides, rangeAlong, rangeBox, stateAfter}
-use Rattle.functional.specs.Partitioned.{fitsTask, taskFits, slotsSuffice, indicesAfter, Partitioned}
+use Rattle.dominance.specs.Functional.{Task, besides, rangeAlong, rangeBox, stateAfter}
+use Rattle.dominance.specs.Partitioned.{fitsTask, taskFits, slotsSuffice, indicesAfter, Partitioned}
 use Rattle.functional.specs.Held.{Room, task, slotAt, boxAt, ballFloats, putBox, Put, ballsIn, livedAt, lived, BallsOf, Sane, Holds, Searched, Ran}
 use Rattle.functional.proofs.SlotLaws.{slot-long, box-put}
 use Rattle.functional.proofs.BallLaws.{balls-none}
 use Rattle.functional.proofs.MarkLaws.{few-unmarked}
 use Rattle.functional.proofs.BoxLaws.{range-wide, box-by-numbers}
-use Rattle.functional.proofs.PeakLaws.{slots-too-few}
+use Rattle.dominance.proofs.PeakLaws.{slots-too-few}
 
 -- ---- the range
 pub range-of-task : (run : List Float) (n channels m : ℕ) (penalty : Float)

@@ -16,7 +16,7 @@ use Rattle.readings.proofs.PartLaws.{read, store, part-front, part-back, part-l
 use Rattle.candidate.specs.declared.Candidate.{Candidate}
 use Rattle.candidate.specs.Boxes.{at}
 use Rattle.candidate.specs.Balls.{heldAt}
-use Rattle.functional.specs.declared.Facing.{Facing}
+use Rattle.dominance.specs.declared.Facing.{Facing}
 use Rattle.functional.specs.Held.{slotAt, boxAt, facingAt, ballFloats, putFour, putBox, putFacing, Put, Copied, Balled, Mapped}
 
 -- ---- one slot

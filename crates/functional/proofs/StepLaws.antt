@@ -19,11 +19,11 @@ use Rattle.recurrence.specs.Predecessors.{Placed, start, later}
 use Rattle.recurrence.proofs.All.{all-at}
 use Rattle.recurrence.proofs.MinimumLaws.{scan-takes}
 use Rattle.functional.specs.declared.Plan.{Plan}
-use Rattle.functional.specs.Functional.{Task, Living, State, price, places, bestAt, livingAt, joinOf, livingAfter, stepOf, stateAfter, functional}
+use Rattle.dominance.specs.Functional.{Task, Living, State, price, places, bestAt, livingAt, joinOf, livingAfter, stepOf, stateAfter, functional}
 use Rattle.functional.specs.Held.{Room, task, livedAt, lived, BallsOf, Sane, Below, Joins, taus, Holds, Stepped, Searched}
 use Rattle.functional.proofs.BirthLaws.{lived-long}
-use Rattle.functional.proofs.SoundLaws.{places-length, places-at, placed-after}
-use Rattle.functional.proofs.PeakLaws.{peak-within, slots-too-few, slots-enough}
+use Rattle.dominance.proofs.SoundLaws.{places-length, places-at, placed-after}
+use Rattle.dominance.proofs.PeakLaws.{peak-within, slots-too-few, slots-enough}
 
 -- ---- the places of the living candidates
 taus-at : (ix : List ℕ) (w count j : ℕ) → j < count → getD (taus ix w count) j 0 ≡ getD ix (w + j) 0

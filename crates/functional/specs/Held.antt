@@ -17,8 +17,8 @@ use Rattle.candidate.specs.Boxes.{at, ballOf, restrict, isDominated}
 use Rattle.candidate.specs.Balls.{heldAt, ballsAt, meant, Rooted, loseInside}
 use Rattle.candidate.specs.Cuts.{cutLosing}
 use Rattle.functional.specs.declared.Plan.{Plan}
-use Rattle.functional.specs.declared.Facing.{Facing}
-use Rattle.functional.specs.Functional.{Task, Living, State, price, outerBall, innerBall, livingAt, cutBack, rangeBox, joinedBy, joinOf, stateAfter, functional}
+use Rattle.dominance.specs.declared.Facing.{Facing}
+use Rattle.dominance.specs.Functional.{Task, Living, State, price, outerBall, innerBall, livingAt, cutBack, rangeBox, joinedBy, joinOf, stateAfter, functional}
 
 -- ---- the plan
 

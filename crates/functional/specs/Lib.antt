@@ -1,3 +1,1 @@
-pub mod Functional
-pub mod Partitioned
 pub mod Held

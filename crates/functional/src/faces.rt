@@ -3,20 +3,19 @@ ghost use mathlib.Core.Path.{_≡_};
 ghost use Prim.Native.Nat.{ℕ, _+_, _-_, _*_, _≤_, _<_};
 ghost use lib.ListN.{length, getD};
 ghost use lib.Ieee.{nan};
-ghost use Rattle.floats.specs.Numbers.{_+ᶠ_, _-ᶠ_, _*ᶠ_, _/ᶠ_, whole, ratio};
-ghost use Rattle.floats.specs.Finite.{abs};
+ghost use Rattle.floats.specs.Numbers.{_-ᶠ_, _/ᶠ_, whole};
 ghost use Rattle.readings.specs.Parts.{part};
 ghost use Rattle.sums.specs.EachChannel.{Sums};
-ghost use Rattle.functional.specs.Functional.{facing, besides, centreAlong};
+ghost use Rattle.dominance.specs.Functional.{facing, besides, centreAlong};
 ghost use Rattle.functional.specs.Held.{Room, task, putFacing, Below, Mapped};
-use crate::Facing;
 use crate::Plan;
 use crate::slots::float_at;
 use crate::slots::index_at;
 use crate::slots::put_facing;
 use costs::CostFunction;
 use costs::cost_of;
-use floats::abs;
+use dominance::Facing;
+use dominance::slack_of;
 
 fn mean_between(floats: &[f64], place: usize, a: usize, b: usize) -> f64
     requires { ⌜ (a < b) × (b ≤ 4096) × (place + b < length (now floats)) ⌝ }
@@ -34,13 +33,6 @@ fn second_mean(run: &[f64], floats: &[f64], plan: Plan, a: usize, b: usize) -> f
         return 0.0;
     }
     mean_between(floats, 2 * (plan.n + 1), a, b)
-}
-
-// Room for the rounding of the four terms of the gap.
-fn slack_of(fb: f64, fa: f64, cost: f64, penalty: f64, length: f64) -> f64
-    ensures { λ r. ⌜ r ≡ ratio 1 1000000000 *ᶠ (abs fb +ᶠ abs fa +ᶠ abs cost +ᶠ penalty) /ᶠ length ⌝ }
-{
-    0.000000001 * (abs(fb) + abs(fa) + abs(cost) + penalty) / length
 }
 
 // What b means to the candidate a. The readings go along for the contract alone.

@@ -1,10 +1,9 @@
 // The functional search: the predecessors for the L2 cost on one or two channels, with candidates
 // dropped once no mean is left where they win.
 //
-// `partition_functional` asks nothing of its caller. `specs/Functional` has the search,
-// `specs/Partitioned` what is answered and left in the lent areas; that one outcome meets it is
-// proved, and what holds of the predecessors (`proofs/SoundLaws`) and of the slots
-// (`proofs/PeakLaws`). `specs/Held` is for the private functions: how the areas hold a state.
+// `partition_functional` asks nothing of its caller. Crate `dominance` has the search as it is defined,
+// and what is answered and left in the lent areas; that one outcome meets it is proved there and here.
+// `specs/Held` is for the private functions: how the areas hold a state.
 mod birth;
 mod faces;
 mod losing;
@@ -17,15 +16,6 @@ mod steps;
 
 use candidate::Candidate;
 pub use partition::partition_functional;
-
-// What two candidates a < b mean to each other: a ball about the mean between them, wider by the
-// slack where a may still win, narrower by it where b loses.
-struct Facing {
-    pub cx: f64,
-    pub cy: f64,
-    pub outer: f64,
-    pub inner: f64,
-}
 
 // What is searched, and where it stands: F at `f` of the floats, after the sums. Of the indices the
 // first n + 1 are the predecessors, the next the living candidates, the next their words.

@@ -2,12 +2,12 @@
 ghost use mathlib.Core.Path.{_≡_};
 ghost use Prim.Native.Nat.{_+_, _*_, _≤_};
 ghost use lib.ListN.{length};
-ghost use Rattle.functional.specs.Functional.{innerBall};
+ghost use Rattle.dominance.specs.Functional.{innerBall};
 ghost use Rattle.functional.specs.Held.{slotAt, facingAt, Balls, lostBy};
-use crate::Facing;
 use crate::slots::facing_at;
 use candidate::Ball;
 use candidate::lose_inside;
+use dominance::Facing;
 
 // The narrower ball; on one channel its second number is 0.
 fn inner_ball(x: Facing) -> Ball

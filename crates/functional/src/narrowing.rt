@@ -6,9 +6,8 @@ ghost use Prim.Native.Nat.{_+_, _*_, _≤_, _<_};
 ghost use lib.ListN.{length};
 ghost use Rattle.candidate.specs.Balls.{ballsAt};
 ghost use Rattle.candidate.specs.Cuts.{cutLosing};
-ghost use Rattle.functional.specs.Functional.{outerBall, cutBack};
+ghost use Rattle.dominance.specs.Functional.{outerBall, cutBack};
 ghost use Rattle.functional.specs.Held.{slotAt, boxAt, ballFloats, putBox, Put, Balled, Mapped, ballsIn, livedAt, Kept, BallsOf, Sane, narrowedAt, Remarked, putIndices, Settled, Narrowed};
-use crate::Facing;
 use crate::marks::marked;
 use crate::marks::remarked;
 use crate::marks::same_box;
@@ -19,6 +18,7 @@ use crate::slots::move_balls;
 use crate::slots::put_box;
 use candidate::Ball;
 use candidate::Candidate;
+use dominance::Facing;
 
 fn outer_ball(x: Facing) -> Ball
     ensures { λ r. ⌜ r ≡ outerBall x ⌝ }

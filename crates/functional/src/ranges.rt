@@ -4,7 +4,7 @@ ghost use Rattle.floats.specs.Numbers.{+0};
 ghost use Rattle.readings.specs.Channels.{channelOf};
 ghost use Rattle.sums.specs.Sums.{meanOf};
 ghost use Rattle.sums.specs.Extremes.{rangeOf, about};
-ghost use Rattle.functional.specs.Functional.{rangeBox};
+ghost use Rattle.dominance.specs.Functional.{rangeBox};
 use candidate::Candidate;
 use readings::channel;
 use sums::Range;

@@ -6,8 +6,8 @@ ghost use lib.ListN.{length, getD};
 ghost use lib.Ieee.{nan};
 ghost use Rattle.readings.specs.Parts.{part};
 ghost use Rattle.functional.specs.Held.{slotAt, boxAt, facingAt, putBox, putFacing, Put, Copied, Balled};
-use crate::Facing;
 use candidate::Candidate;
+use dominance::Facing;
 
 pub(crate) fn index_at(area: &[usize], place: usize) -> usize
     requires { ⌜ place < length (now area) ⌝ }

@@ -8,7 +8,7 @@ ghost use Rattle.floats.specs.Numbers.{_+ᶠ_};
 ghost use Rattle.readings.specs.Parts.{part};
 ghost use Rattle.sums.specs.EachChannel.{Sums};
 ghost use Rattle.recurrence.specs.Minimum.{scanTo};
-ghost use Rattle.functional.specs.Functional.{price};
+ghost use Rattle.dominance.specs.Functional.{price};
 ghost use Rattle.functional.specs.Held.{Room, task, taus, Below, Holds, Stepped, Searched};
 use crate::Plan;
 use crate::birth::birth;

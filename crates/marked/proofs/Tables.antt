@@ -26,7 +26,7 @@ use Rattle.inequality.specs.Inequality as Inequality
 use Rattle.candidate.specs.Boxes.{spanAt, withSpan, overChannels, alongEach, gap2, narrowed, missed, nothing, restrict, isDominated}
 use Rattle.candidate.specs.Balls.{narrowestTo, displace, loseInside}
 use Rattle.candidate.specs.Cuts.{far2, inside, moved, cutEnds, cutSpan, cutBy, cutTo, cutLosing}
-use Rattle.functional.specs.Functional.{price, places, bestAt, centreAlong, besides, facing, lostTo, restricted, cutBack, winnersTo, rangeAlong, rangeBox, born, joinedBy, joinOf, livingAfter, stepOf, stateAfter, functional}
+use Rattle.dominance.specs.Functional.{price, places, bestAt, centreAlong, besides, slackOf, facing, lostTo, restricted, cutBack, winnersTo, rangeAlong, rangeBox, born, joinedBy, joinOf, livingAfter, stepOf, stateAfter, functional}
 use Rattle.backtrack.specs.Cuts.{predecessorOf, backFrom, cutsOf}
 use Rattle.admission.specs.Tests.{badPenalty, shortRoom, roomTests, searchTests, passed}
 use Rattle.finding.specs.Search.{penaltyValue, prunedCuts, functionalCuts, takesFunctional, cutsBy, cutsWith, cutsFound}
@@ -46,7 +46,7 @@ unfolding outcome searchOutcome areasLeft writtenBy sumsFrom averagesFrom chartA
     searchTests roomTests shortRoom badPenalty shapeTests totalTo sameTo gapTo channelAt indexAt tried passed
     cutsFound cutsWith cutsBy takesFunctional functionalCuts prunedCuts penaltyValue penaltyOf bicPenalty foundSaid cutsLeft areaLeft cutsOf backFrom predecessorOf
     noiseSumTo noise spreadOf floorOf median differences differenceAt sorted insert tab
-    functional stateAfter stepOf livingAfter joinOf joinedBy born rangeBox rangeAlong winnersTo cutBack restricted lostTo facing besides centreAlong bestAt places price
+    functional stateAfter stepOf livingAfter joinOf joinedBy born rangeBox rangeAlong winnersTo cutBack restricted lostTo facing slackOf besides centreAlong bestAt places price
     Inequality.oldEnough Inequality.partOf Inequality.bestAt Inequality.staysAt Inequality.stepOf Inequality.stateAfter Inequality.predecessors Inequality.price
     scanTo betterOf noneYet keptTo costTo costOf l2Cost normalCost smallestNormal segmentOf segmentAbout channelOf hasChannel part meanOf sumTo centred centredTo squaresTo
     lowestTo highestTo rangeOf max min abs ahead sqrt spanAt withSpan overChannels alongEach gap2 narrowed missed nothing restrict isDominated

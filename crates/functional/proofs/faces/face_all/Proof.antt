@@ -8,7 +8,7 @@ use Rattle.functional.proofs.faces.face_all.Statement.{statement}
 use Rattle.functional.proofs.faces.face_all.Tie as tie
 use denote.Ref.{now}
 use Rattle.readings.specs.Parts.{part}
-use Rattle.functional.specs.Functional.{facing}
+use Rattle.dominance.specs.Functional.{facing}
 use Rattle.functional.specs.Held.{task, slotAt, putFacing, Mapped}
 use Rattle.functional.proofs.SlotLaws.{mapped-none, mapped-more, mapped-all}
 

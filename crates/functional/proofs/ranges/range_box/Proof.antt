@@ -3,7 +3,7 @@ use borrow.Author.Needs.{needs}
 use Rattle.functional.proofs.ranges.range_box.Statement.{statement}
 use Rattle.functional.proofs.ranges.range_box.Tie as tie
 use lib.Ieee.{ofBits}
-use Rattle.functional.specs.Functional.{rangeAlong}
+use Rattle.dominance.specs.Functional.{rangeAlong}
 use Rattle.functional.proofs.PartitionLaws.{range-one, range-two}
 
 range-along-requires : tie.Need-range-along-requires

@@ -12,7 +12,7 @@ use mathlib.Core.Bool.{true}
 use Rattle.floats.specs.Numbers.{_+ᶠ_}
 use Rattle.readings.specs.Parts.{part}
 use Rattle.recurrence.specs.Minimum.{scanTo}
-use Rattle.functional.specs.Functional.{price}
+use Rattle.dominance.specs.Functional.{price}
 use Rattle.functional.specs.Held.{task, taus}
 use Rattle.functional.proofs.StepLaws.{scanned-more}
 

@@ -14,7 +14,7 @@ use Rattle.recurrence.proofs.All.{All, none, one, all-at, all-last, all-map}
 use Rattle.recurrence.proofs.MinimumLaws.{scan-is}
 use Rattle.recurrence.proofs.PredecessorLaws.{placed-next, Filled, filled-after}
 use Rattle.candidate.specs.Boxes.{isDominated}
-use Rattle.functional.specs.Functional.{Task, Living, State, places, bestAt, livingAt, restricted, cutBack, lostTo, winnersTo, born, joinedBy, joinOf, livingAfter, stepOf, stateAfter, functional}
+use Rattle.dominance.specs.Functional.{Task, Living, State, places, bestAt, livingAt, restricted, cutBack, lostTo, winnersTo, born, joinedBy, joinOf, livingAfter, stepOf, stateAfter, functional}
 
 -- ---- the places of the living candidates
 pub places-length : (living : List Living) → length (places living) ≡ length living

@@ -8,7 +8,7 @@ use lib.ListN.{length, replicate}
 use lib.Ieee.{Float}
 use Rattle.floats.specs.Numbers.{+0}
 use Rattle.recurrence.specs.Room.{searchFits}
-use Rattle.functional.specs.Functional.{Task, functional}
+use Rattle.dominance.specs.Functional.{Task, functional}
 
 -- one or two channels of a run of so many readings, and the work floats and indices of a search
 unfoldable pub fitsTask : ℕ → ℕ → ℕ → ℕ → ℕ → ℕ → Bool

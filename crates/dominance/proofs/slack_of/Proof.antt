@@ -1,10 +1,11 @@
 use mathlib.Core.Path.{refl}
 use Prim.Native.Nat.{_-_}
 use borrow.Author.Needs.{needs}
-use Rattle.functional.proofs.faces.slack_of.Statement.{statement}
-use Rattle.functional.proofs.faces.slack_of.Tie as tie
+use Rattle.dominance.proofs.slack_of.Statement.{statement}
+use Rattle.dominance.proofs.slack_of.Tie as tie
 use lib.Ieee.{ofBits}
 use Rattle.floats.specs.Numbers.{ratio}
+use Rattle.dominance.specs.Functional.{slackOf}
 
 abs-requires : tie.Need-abs-requires
 abs-requires c κs = search needs
@@ -16,7 +17,7 @@ abs-requires-3 : tie.Need-abs-requires-3
 abs-requires-3 c κs = search needs
 
 returns : tie.Need-returns
-unfolding ofBits ratio
+unfolding ofBits ratio slackOf
 returns c = rw (c .abs3 .ensures, c .before .abs2 .ensures, c .before .before .abs .ensures) refl
 
 pub slack-of-spec : {M : Type 1} → statement M

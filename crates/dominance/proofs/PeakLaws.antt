@@ -8,7 +8,7 @@ use native.Mathlib.Omega.{arith}
 use borrow.Author.Tests.{le-leb, lt-leb}
 use lib.Dec.{leb}
 use lib.ListN.{length}
-use Rattle.functional.specs.Functional.{Task, stepOf, stateAfter, functional}
+use Rattle.dominance.specs.Functional.{Task, stepOf, stateAfter, functional}
 
 -- ---- one step more
 peak-next : (k : Task) (d : ℕ) → stateAfter k (suc d) .peak ≡ max (stateAfter k d .peak) (length (stateAfter k (suc d) .living))

@@ -20,7 +20,7 @@ use Rattle.candidate.specs.declared.Ball.{Ball}
 use Rattle.candidate.specs.Boxes.{ballOf, restrict, isDominated}
 use Rattle.candidate.specs.Balls.{loseInside}
 use Rattle.candidate.specs.Cuts.{cutLosing}
-use Rattle.functional.specs.declared.Facing.{Facing}
+use Rattle.dominance.specs.declared.Facing.{Facing}
 
 -- what is searched: a run of one or two channels with n readings each
 pub record Task : Type 0 where
@@ -63,6 +63,10 @@ centreAlong k channel a b = let s = segmentOf (channelOf (k .run) (k .n) channel
 unfoldable pub besides : Task → Float → Float
 besides k v = cond (eqb (k .channels) 1) +0 v
 
+-- room for the rounding of the four terms of the gap between them
+unfoldable pub slackOf : Float → Float → Float → Float → Float → Float
+slackOf fb fa cost penalty len = ratio 1 (10 ^ 9) *ᶠ (abs fb +ᶠ abs fa +ᶠ abs cost +ᶠ penalty) /ᶠ len
+
 -- a ball about the mean between them: a can still win only inside the outer one, which is a little wider, and b loses inside the inner one, which is a little narrower
 unfoldable pub facing : Task → List Float → ℕ → ℕ → Facing
 facing k f a b =
@@ -71,7 +75,7 @@ facing k f a b =
     let fa = getD f a nan in
     let fb = getD f b nan in
     let gap = (fb -ᶠ fa -ᶠ cost) /ᶠ len in
-    let slack = ratio 1 (10 ^ 9) *ᶠ (abs fb +ᶠ abs fa +ᶠ abs cost +ᶠ k .penalty) /ᶠ len in
+    let slack = slackOf fb fa cost (k .penalty) len in
     record { cx = centreAlong k 0 a b; cy = besides k (centreAlong k 1 a b); outer = gap +ᶠ slack; inner = gap -ᶠ slack }
 
 abbrev pub outerBall : Facing → Ball

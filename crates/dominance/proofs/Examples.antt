@@ -1,6 +1,7 @@
--- Searches by computation: births, two cuts, two channels; crate `marked` has P1 to P9 and more. Assumes nothing.
+-- Searches by computation: who is born and dropped, slots, two cuts, two channels; crate `marked` has P1 to P9 and more. Assumes nothing.
 use Prim.Native.Nat.{ℕ}
 use mathlib.Core.Path.{_≡_, refl}
+use mathlib.Core.Bool.{true, false}
 use mathlib.Core.List.{List, [], _∷_, _++_, map}
 use lib.Ieee.{Float, nan, neg, eq, ne, lt, le, size, add, sub, mul, div, ofInt}
 use Rattle.floats.specs.Numbers.{whole, ratio}
@@ -16,11 +17,12 @@ use Rattle.recurrence.specs.Minimum.{noneYet, betterOf, scanTo}
 use Rattle.candidate.specs.Boxes.{spanAt, withSpan, overChannels, alongEach, gap2, narrowed, missed, nothing, restrict, isDominated}
 use Rattle.candidate.specs.Balls.{ahead, narrowestTo, displace, loseInside}
 use Rattle.candidate.specs.Cuts.{far2, inside, moved, cutEnds, cutSpan, cutBy, cutTo, cutLosing}
-use Rattle.functional.specs.Functional.{Task, State, price, places, bestAt, centreAlong, besides, facing, lostTo, restricted, cutBack, winnersTo, rangeAlong, rangeBox, born, joinedBy, joinOf, livingAfter, stepOf, stateAfter, functional}
+use Rattle.dominance.specs.Functional.{Task, State, price, places, bestAt, centreAlong, besides, slackOf, facing, lostTo, restricted, cutBack, winnersTo, rangeAlong, rangeBox, born, joinedBy, joinOf, livingAfter, stepOf, stateAfter, functional}
+use Rattle.dominance.specs.Partitioned.{slotsSuffice}
 
 -- the search, opened: to unfold it is to unfold all that the line names
 search : Task → State
-unfolding functional stateAfter stepOf livingAfter joinOf joinedBy born rangeBox rangeAlong winnersTo cutBack restricted lostTo facing besides centreAlong bestAt places price scanTo betterOf noneYet costTo costOf l2Cost segmentOf segmentAbout channelOf hasChannel part meanOf sumTo centred centredTo squaresTo lowestTo highestTo rangeOf max min abs sqrt spanAt withSpan overChannels alongEach gap2 narrowed missed nothing restrict isDominated ahead narrowestTo displace loseInside far2 inside moved cutEnds cutSpan cutBy cutTo cutLosing ratio size add sub mul div lt le eq ne neg ofInt
+unfolding functional stateAfter stepOf livingAfter joinOf joinedBy born rangeBox rangeAlong winnersTo cutBack restricted lostTo facing slackOf besides centreAlong bestAt places price scanTo betterOf noneYet costTo costOf l2Cost segmentOf segmentAbout channelOf hasChannel part meanOf sumTo centred centredTo squaresTo lowestTo highestTo rangeOf max min abs sqrt spanAt withSpan overChannels alongEach gap2 narrowed missed nothing restrict isDominated ahead narrowestTo displace loseInside far2 inside moved cutEnds cutSpan cutBy cutTo cutLosing ratio size add sub mul div lt le eq ne neg ofInt
 search k = functional k
 
 -- m is 2, so that the first step is t = 2
@@ -31,6 +33,11 @@ row channels n run penalty = record { run = run; n = n; channels = channels; m =
 abbrev step : List Float
 step = whole 0 ∷ whole 0 ∷ whole 4 ∷ whole 4 ∷ []
 
+-- with custom 1 the candidate 0 is dominated when 3 joins, and dropped
+one-is-dropped : map (λ d. places (stateAfter (row 1 4 step (whole 1)) d .living)) (2 ∷ 3 ∷ []) ≡ (0 ∷ 2 ∷ []) ∷ (2 ∷ 3 ∷ []) ∷ []
+unfolding search
+one-is-dropped = refl
+
 -- ---- 0 NaN 4 4, custom 1
 abbrev gap : Task
 gap = row 1 4 (whole 0 ∷ nan ∷ whole 4 ∷ whole 4 ∷ []) (whole 1)
@@ -39,6 +46,11 @@ gap = row 1 4 (whole 0 ∷ nan ∷ whole 4 ∷ whole 4 ∷ []) (whole 1)
 all-births : map (λ d. places (stateAfter gap d .living)) (1 ∷ 2 ∷ 3 ∷ []) ≡ (0 ∷ []) ∷ (0 ∷ 2 ∷ []) ∷ (0 ∷ 2 ∷ 3 ∷ []) ∷ []
 unfolding search
 all-births = refl
+
+-- the three that live at once take three slots of 200 floats, and a float less is too little
+three-slots : map (slotsSuffice gap) (599 ∷ 600 ∷ []) ≡ false ∷ true ∷ []
+unfolding search slotsSuffice
+three-slots = refl
 
 -- ---- 0 0 4 4 0 0, custom 1: the cuts are 4 and, before it, 2
 two-cuts : functional (row 1 6 (step ++ (whole 0 ∷ whole 0 ∷ [])) (whole 1)) .last ≡ 0 ∷ 0 ∷ 0 ∷ 0 ∷ 2 ∷ 2 ∷ 4 ∷ []

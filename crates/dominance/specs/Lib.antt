@@ -1,0 +1,2 @@
+pub mod Functional
+pub mod Partitioned
