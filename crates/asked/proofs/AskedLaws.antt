@@ -9,10 +9,10 @@ use Rattle.refusals.specs.Stated.{stated}
 use Rattle.refusals.specs.Said.{tried, refused}
 use Rattle.refusals.specs.declared.Refusal.{Refusal}
 use Rattle.admission.specs.Tests.{passed}
-use Rattle.finding.specs.declared.Searched.{Searched}
-use Rattle.finding.specs.declared.Searched.the-variants as Searched
-use Rattle.finding.specs.Left.{Left, cutsLeft, areaLeft}
-use Rattle.finding.proofs.Outcomes.{answer-once, areas-once}
+use Rattle.searches.specs.declared.Searched.{Searched}
+use Rattle.searches.specs.declared.Searched.the-variants as Searched
+use Rattle.searches.specs.Left.{Left, cutsLeft, areaLeft}
+use Rattle.searches.proofs.Outcomes.{answer-once, areas-once}
 use Rattle.told.specs.declared.Told.{Told}
 use Rattle.told.specs.Told.{toldOf}
 use Rattle.asked.specs.Asked.{ToldLeft, toldCuts}

@@ -15,9 +15,9 @@ use Rattle.costs.specs.declared.CostFunction.the-variants as CostFunction
 use Rattle.costs.specs.declared.Penalty.{Penalty}
 use Rattle.costs.specs.declared.Penalty.the-variants as Penalty
 use Rattle.admission.specs.Tests.{searchTests}
-use Rattle.finding.specs.declared.Searched.{Searched}
-use Rattle.finding.specs.Search.{cutsFound}
-use Rattle.finding.specs.Left.{searched, Left}
+use Rattle.searches.specs.declared.Searched.{Searched}
+use Rattle.searches.specs.Search.{cutsFound}
+use Rattle.searches.specs.Left.{searched, Left}
 use Rattle.told.specs.declared.Told.{Told}
 use Rattle.told.specs.Told.{toldOf}
 

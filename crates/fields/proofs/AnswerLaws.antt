@@ -20,9 +20,9 @@ use Rattle.costs.specs.declared.Penalty.{Penalty}
 use Rattle.admission.specs.Tests.{badPenalty, shortRoom, roomTests, searchTests, passed}
 use Rattle.admission.proofs.AdmissionLaws.{shapely, passed-channels}
 use Rattle.readings.specs.Shape.{shapedAs}
-use Rattle.finding.specs.declared.Searched.{Searched}
-use Rattle.finding.specs.declared.Searched.the-variants as Searched
-use Rattle.finding.specs.Left.{foundSaid, cutsLeft, Left, Detected}
+use Rattle.searches.specs.declared.Searched.{Searched}
+use Rattle.searches.specs.declared.Searched.the-variants as Searched
+use Rattle.searches.specs.Left.{foundSaid, cutsLeft, Left, Detected}
 use Rattle.pelt.specs.declared.Pelt.{Pelt}
 use Rattle.pelt.specs.Detected as Pelt
 use Rattle.pelt.specs.Detected.{withMinSegmentLen}

@@ -11,7 +11,7 @@ use Rattle.refusals.specs.declared.Refusal.{Refusal}
 use Rattle.refusals.specs.declared.Refusal.the-variants as Refusal
 use Rattle.readings.specs.Shape.{firstLength}
 use Rattle.admission.specs.Tests.{searchTests}
-use Rattle.finding.specs.Search.{cutsFound}
+use Rattle.searches.specs.Search.{cutsFound}
 use Rattle.fields.specs.Form.{Request, requestOf}
 use Rattle.fields.specs.Lines.{text}
 use Rattle.fields.specs.declared.Printed.{Printed}

@@ -36,11 +36,11 @@ use Rattle.dominance.specs.Partitioned.{fitsTask, slotsSuffice, indicesAfter, P
 use Rattle.dominance.proofs.SoundLaws.{functional-sound, functional-long}
 use Rattle.backtrack.specs.Cuts.{cutsOf}
 use Rattle.backtrack.proofs.CutLaws.{front-count, room-front, room-rest}
-use Rattle.finding.specs.declared.Searched.{Searched}
-use Rattle.finding.specs.declared.Searched.the-variants as Searched
+use Rattle.searches.specs.declared.Searched.{Searched}
+use Rattle.searches.specs.declared.Searched.the-variants as Searched
 use Rattle.admission.specs.Tests.{searchTests, passed, admittedAs, Admitted}
-use Rattle.finding.specs.Search.{penaltyValue, prunedCuts, functionalCuts, takesFunctional, cutsBy, cutsWith, cutsFound}
-use Rattle.finding.specs.Left.{searched, foundSaid, cutsLeft, areaLeft, Left, Detected}
+use Rattle.searches.specs.Search.{penaltyValue, prunedCuts, functionalCuts, takesFunctional, cutsBy, cutsWith, cutsFound}
+use Rattle.searches.specs.Left.{searched, foundSaid, cutsLeft, areaLeft, Left, Detected}
 use Rattle.finding.specs.Held.{asksNoise, CutBack}
 use Rattle.admission.proofs.AdmissionLaws.{channels-passed, passed-channels, passed-said, refused-not-passed, refused-said}
 

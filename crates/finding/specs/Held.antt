@@ -9,8 +9,8 @@ use Rattle.costs.specs.declared.Penalty.{Penalty}
 use Rattle.costs.specs.declared.Penalty.the-variants as Penalty
 use Rattle.areas.specs.Cleared.{Cleared}
 use Rattle.backtrack.specs.Backtracked.{Backtracked}
-use Rattle.finding.specs.declared.Searched.{Searched}
-use Rattle.finding.specs.declared.Searched.the-variants as Searched
+use Rattle.searches.specs.declared.Searched.{Searched}
+use Rattle.searches.specs.declared.Searched.the-variants as Searched
 
 -- BIC for L2 is worked out from the noise
 unfoldable pub asksNoise : Penalty → CostFunction → Bool

@@ -1,4 +1,1 @@
-pub mod Search
-pub mod Left
-pub mod Demand
 pub mod Held

@@ -6,11 +6,10 @@ ghost use Prim.Native.Nat.{_/_, _≤_};
 ghost use lib.ListN.{length, replicate};
 ghost use Rattle.floats.specs.Numbers.{+0};
 ghost use Rattle.admission.specs.Tests.{Admitted};
-ghost use Rattle.finding.specs.declared.Searched.the-variants.{Cuts};
-ghost use Rattle.finding.specs.Search.{prunedCuts, functionalCuts};
-ghost use Rattle.finding.specs.Left.{Left};
+ghost use Rattle.searches.specs.declared.Searched.the-variants.{Cuts};
+ghost use Rattle.searches.specs.Search.{prunedCuts, functionalCuts};
+ghost use Rattle.searches.specs.Left.{Left};
 ghost use Rattle.finding.specs.Held.{CutBack};
-use crate::Searched;
 use areas::clear_floats;
 use areas::clear_indices;
 use backtrack::backtrack;
@@ -18,6 +17,7 @@ use costs::CostFunction;
 use functional::partition_functional;
 use inequality::partition_pruned;
 use refusals::Refusal;
+use searches::Searched;
 
 // No cuts, where no search runs: the work areas are zero all the same. Cost: one turn for each place.
 pub(crate) fn no_cuts(floats: &mut [f64], indices: &mut [usize], pool: &mut [f64]) -> Searched

@@ -4,11 +4,10 @@ ghost use mathlib.Core.List.{[]};
 ghost use Prim.Native.Nat.{_+_, _*_, _/_, _≤_};
 ghost use lib.ListN.{length};
 ghost use Rattle.admission.specs.Tests.{Admitted};
-ghost use Rattle.finding.specs.Search.{penaltyValue, takesFunctional, cutsFound};
-ghost use Rattle.finding.specs.Left.{Left, Detected};
+ghost use Rattle.searches.specs.Search.{penaltyValue, takesFunctional, cutsFound};
+ghost use Rattle.searches.specs.Left.{Left, Detected};
 ghost use Rattle.finding.specs.Held.{asksNoise};
 use crate::FUNCTIONAL_MAX_CHANNELS;
-use crate::Searched;
 use crate::cuts::by_functional;
 use crate::cuts::by_inequality;
 use crate::cuts::no_cuts;
@@ -18,6 +17,7 @@ use costs::Penalty;
 use costs::resolve_penalty;
 use noise::noise_sum;
 use readings::Shaped;
+use searches::Searched;
 
 // Whether the penalty is worked out from the noise.
 fn asks_noise(penalty: Penalty, cost: CostFunction) -> bool

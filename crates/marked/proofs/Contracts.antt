@@ -22,8 +22,8 @@ use Rattle.cusum.specs.declared.Side.{Side}
 use Rattle.ewma.specs.Chart as Ewma
 use Rattle.ewma.specs.declared.Ewma.{Ewma}
 use Rattle.ewma.specs.declared.EwmaResult.{EwmaResult}
-use Rattle.finding.specs.Left as Left
-use Rattle.finding.specs.declared.Searched.{Searched}
+use Rattle.searches.specs.Left as Left
+use Rattle.searches.specs.declared.Searched.{Searched}
 use Rattle.pelt.specs.Detected as Detected
 use Rattle.pelt.specs.declared.Pelt.{Pelt}
 use Rattle.marked.specs.Calls.{Areas, search, cusum, cusumPoints, runLength, ewma, ewmaPoints, searched, sums, averages, points, heard, areasLeft, searchOutcome, writtenBy, outcome}

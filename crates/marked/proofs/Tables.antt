@@ -29,8 +29,8 @@ use Rattle.candidate.specs.Cuts.{far2, inside, moved, cutEnds, cutSpan, cutBy, 
 use Rattle.dominance.specs.Functional.{price, places, bestAt, centreAlong, besides, slackOf, facing, lostTo, restricted, cutBack, winnersTo, rangeAlong, rangeBox, born, joinedBy, joinOf, livingAfter, stepOf, stateAfter, functional}
 use Rattle.backtrack.specs.Cuts.{predecessorOf, backFrom, cutsOf}
 use Rattle.admission.specs.Tests.{badPenalty, shortRoom, roomTests, searchTests, passed}
-use Rattle.finding.specs.Search.{penaltyValue, prunedCuts, functionalCuts, takesFunctional, cutsBy, cutsWith, cutsFound}
-use Rattle.finding.specs.Left.{foundSaid, cutsLeft, areaLeft}
+use Rattle.searches.specs.Search.{penaltyValue, prunedCuts, functionalCuts, takesFunctional, cutsBy, cutsWith, cutsFound}
+use Rattle.searches.specs.Left.{foundSaid, cutsLeft, areaLeft}
 use Rattle.charts.specs.Answers.{chartAnswer}
 use Rattle.cusum.specs.Chart as Cusum
 use Rattle.cusum.specs.RunLength.{heardFrom, heard, runLength}

@@ -23,8 +23,8 @@ use Rattle.candidate.specs.Boxes.{at}
 use Rattle.candidate.specs.Balls.{ballAt, loseInside}
 use Rattle.candidate.specs.declared.Ball.{Ball}
 use Rattle.admission.specs.Tests.{searchTests, passed}
-use Rattle.finding.specs.Search.{cutsFound}
-use Rattle.finding.specs.Left.{foundSaid, cutsLeft, areaLeft}
+use Rattle.searches.specs.Search.{cutsFound}
+use Rattle.searches.specs.Left.{foundSaid, cutsLeft, areaLeft}
 use Rattle.pelt.specs.declared.Pelt.{Pelt}
 
 -- ---- calls

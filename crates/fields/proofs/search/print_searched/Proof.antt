@@ -4,8 +4,8 @@ use borrow.Author.Needs.{needs}
 use Rattle.fields.specs.Lines.{text}
 use mathlib.Core.Path.{subst}
 use Rattle.fields.specs.Held.{HasCuts, saidBy}
-use Rattle.finding.specs.declared.Searched.{Searched}
-use Rattle.finding.specs.declared.Searched.the-variants as Searched
+use Rattle.searches.specs.declared.Searched.{Searched}
+use Rattle.searches.specs.declared.Searched.the-variants as Searched
 use Rattle.fields.proofs.AnswerLaws.{front-as}
 use Rattle.fields.proofs.search.print_searched.Statement.{statement}
 use Rattle.fields.proofs.search.print_searched.Tie as tie

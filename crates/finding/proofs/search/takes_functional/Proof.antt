@@ -3,7 +3,7 @@ use borrow.Author.Needs.{needs}
 use Rattle.finding.proofs.search.takes_functional.Statement.{statement}
 use Rattle.finding.proofs.search.takes_functional.Tie as tie
 use Rattle.costs.specs.declared.CostFunction.{CostFunction}
-use Rattle.finding.specs.Search.{takesFunctional}
+use Rattle.searches.specs.Search.{takesFunctional}
 
 enum-told : tie.Need-enum-told
 enum-told c = search needs

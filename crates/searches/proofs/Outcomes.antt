@@ -8,9 +8,9 @@ use lib.Ieee.{Float}
 use Rattle.floats.proofs.Outcomes.{one-outcome}
 use Rattle.refusals.specs.declared.Refusal.{Refusal}
 use Rattle.refusals.proofs.Apart.{refused-apart}
-use Rattle.finding.specs.declared.Searched.{Searched}
-use Rattle.finding.specs.declared.Searched.the-variants as Searched
-use Rattle.finding.specs.Left.{searched, Left}
+use Rattle.searches.specs.declared.Searched.{Searched}
+use Rattle.searches.specs.declared.Searched.the-variants as Searched
+use Rattle.searches.specs.Left.{searched, Left}
 
 -- an answer is known by what is said of it
 searched-apart : (r q : Searched) → searched r ≡ searched q → r ≡ q

@@ -12,12 +12,12 @@ use Rattle.refusals.specs.Said.{Said, refused, answered, tried}
 use Rattle.refusals.specs.declared.Refusal.{Refusal}
 use Rattle.refusals.specs.declared.Refusal.the-variants as Refusal
 use Rattle.readings.specs.Shape.{firstLength}
-use Rattle.finding.specs.declared.Searched.{Searched}
-use Rattle.finding.specs.declared.Searched.the-variants as Searched
+use Rattle.searches.specs.declared.Searched.{Searched}
+use Rattle.searches.specs.declared.Searched.the-variants as Searched
 use Rattle.admission.specs.Tests.{searchTests, passed}
 use Rattle.costs.specs.declared.CostFunction.{CostFunction}
 use Rattle.costs.specs.declared.Penalty.{Penalty}
-use Rattle.finding.specs.Search.{cutsFound}
+use Rattle.searches.specs.Search.{cutsFound}
 
 -- what an answer says: the number of cuts, or the refusal's number and values
 abbrev pub searched : Searched → Said

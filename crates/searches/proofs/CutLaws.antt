@@ -25,12 +25,12 @@ use Rattle.dominance.specs.Functional.{Task, functional}
 use Rattle.dominance.proofs.SoundLaws.{functional-sound}
 use Rattle.backtrack.specs.Cuts.{cutsOf}
 use Rattle.backtrack.proofs.CutLaws.{cuts-rise, cut-pieces, cuts-half}
-use Rattle.finding.specs.declared.Searched.{Searched}
-use Rattle.finding.specs.declared.Searched.the-variants as Searched
+use Rattle.searches.specs.declared.Searched.{Searched}
+use Rattle.searches.specs.declared.Searched.the-variants as Searched
 use Rattle.admission.specs.Tests.{searchTests, passed, admittedAs}
-use Rattle.finding.specs.Search.{penaltyValue, prunedCuts, functionalCuts, takesFunctional, cutsBy, cutsWith, cutsFound}
-use Rattle.finding.specs.Left.{foundSaid, cutsLeft, Detected}
-use Rattle.finding.specs.Demand.{Cut}
+use Rattle.searches.specs.Search.{penaltyValue, prunedCuts, functionalCuts, takesFunctional, cutsBy, cutsWith, cutsFound}
+use Rattle.searches.specs.Left.{foundSaid, cutsLeft, Detected}
+use Rattle.searches.specs.Demand.{Cut}
 use Rattle.admission.proofs.AdmissionLaws.{passed-channels, admitted-fits}
 
 -- ---- of the cuts that are found
