@@ -18,7 +18,6 @@ pub use resting::followed_by;
 use resting::next_paced;
 pub use resting::settles;
 use resting::start_paced;
-pub use step::following;
 pub use step::judge;
 pub use step::start;
 

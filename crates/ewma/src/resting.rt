@@ -78,8 +78,8 @@ pub(crate) fn next_by(chart: Ewma, settled: Settled, data: &[f64], i: usize, sta
     State { shown: after }
 }
 
-// The same, and the same state where there is no such reading: with `settles(chart)` it is what
-// `following` gives for each of the first 4,096 readings, at a fraction of the cost.
+// The same, and the same state where there is no such reading. With `settles(chart)` this is the chart's
+// next state for each of the first 4,096 readings (`proofs/AtRest: followed-settles`).
 pub fn followed_by(chart: Ewma, settled: Settled, data: &[f64], i: usize, state: State) -> State
     ensures { λ r. ⌜ r ≡ followedBy settled chart (now («data» .entry)) i state ⌝ }
 {

@@ -1,10 +1,8 @@
 // The settings of a chart, its limits, and one reading's step.
 ghost use mathlib.Core.Path.{_≡_};
 ghost use Prim.Native.Nat.{_≤_, _<_, _^_};
-ghost use lib.ListN.{length, getD};
-ghost use lib.Ieee.{nan};
 ghost use Rattle.charts.specs.Answers.{admittedAs};
-ghost use Rattle.ewma.specs.Chart.{accepted, halfWidth, placeOf, stepOf, startState, nextState, followingState};
+ghost use Rattle.ewma.specs.Chart.{accepted, halfWidth, placeOf, startState};
 ghost use Rattle.ewma.specs.Settled.{widthAt, stepBy};
 use crate::Ewma;
 use crate::EwmaResult;
@@ -91,15 +89,6 @@ pub(crate) fn step_by(
     }
 }
 
-// The record of the reading x, from the record before it.
-fn step(chart: Ewma, before: EwmaResult, index: Observation, x: f64) -> EwmaResult
-    requires { ⌜ index .0 < 2 ^ 62 ⌝ }
-    ensures { λ r. ⌜ r ≡ stepOf chart before index x ⌝ }
-{
-    let half_width = control_limit_half_width(chart, place_of(index));
-    step_by(chart, half_width, before, index, x)
-}
-
 // Before the first reading the statistic is the target.
 pub fn start(chart: Ewma) -> State
     ensures { λ r. ⌜ r ≡ startState chart ⌝ }
@@ -112,24 +101,4 @@ pub fn start(chart: Ewma) -> State
         index: Observation(0),
     };
     State { shown }
-}
-
-// The state after the reading at i.
-fn next(chart: Ewma, data: &[f64], i: usize, state: State) -> State
-    requires { ⌜ i < length (now «data») ⌝ }
-    ensures { λ r. ⌜ r ≡ nextState chart state i (getD (now («data» .entry)) i nan) ⌝ }
-{
-    let before = state.shown;
-    let after = step(chart, before, Observation(i), data[i]);
-    State { shown: after }
-}
-
-// The state after the reading at i, and the same state where there is no such reading.
-pub fn following(chart: Ewma, data: &[f64], i: usize, state: State) -> State
-    ensures { λ r. ⌜ r ≡ followingState chart (now («data» .entry)) i state ⌝ }
-{
-    if i < data.len() {
-        return next(chart, data, i, state);
-    }
-    state
 }
