@@ -7,8 +7,8 @@ use native.Mathlib.Numerals.{add-one}
 use borrow.Author.Tests.{lt-ltb}
 use lib.ListN.{length, getD, set, length-map}
 use lib.Ieee.{Float, nan}
-use Rattle.charts.specs.Runs.{stateAt, recordAt, records, following, column}
-use Rattle.charts.proofs.Runs.{lent-more, length-lent, length-records}
+use Rattle.walks.specs.Runs.{stateAt, recordAt, records, following, column}
+use Rattle.walks.proofs.Runs.{lent-more, length-lent, length-records}
 
 module _ {C S D : Type 0} (shown : S → D) (start : C → S) (step : C → S → ℕ → Float → S) (c : C) (xs : List Float) (n : ℕ) where
   -- after i of n readings the state is s

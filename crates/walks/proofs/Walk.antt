@@ -61,9 +61,9 @@ use denote.Triple.Entry.{onEntry}
 use denote.Triple.Spec.{tripleOf, Meets}
 use denote.Triple.Clauses.{Clauses, Ended, ensured, lasts, Lasts, closing}
 use denote.Triple.Walked.{says, Stays, stay-slice, stay-none, stay-none-slice, walkOf, Walks, ends-at, walked, goes-slice, goes-none, goes-none-slice, walk-meets}
-use Rattle.charts.specs.Runs as Run
-use Rattle.charts.proofs.Runs as Runs
-use Rattle.charts.proofs.Plain.{Kind, Good, rowOf, vals, KN, good-n, Told, typed, tell}
+use Rattle.walks.specs.Runs as Run
+use Rattle.walks.proofs.Runs as Runs
+use Rattle.walks.proofs.Plain.{Kind, Good, rowOf, vals, KN, good-n, Told, typed, tell}
 
 -- ---- the function
 abbrev sliceD : Ty

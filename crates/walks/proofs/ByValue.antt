@@ -48,9 +48,9 @@ use denote.Triple.Entry.{onEntry}
 use denote.Triple.Spec.{Meets}
 use denote.Triple.Clauses.{Clauses, Ended, closing}
 use denote.Triple.Walked.{Stays, stay-none, stay-none-slice, onExit, walkOf, Walks, ends-at, walked, goes-none, goes-none-slice, walk-meets}
-use Rattle.charts.proofs.Runs as Runs
-use Rattle.charts.proofs.Plain.{Kind, Good, rowOf, vals, typed}
-use Rattle.charts.proofs.Walk as Walk
+use Rattle.walks.proofs.Runs as Runs
+use Rattle.walks.proofs.Plain.{Kind, Good, rowOf, vals, typed}
+use Rattle.walks.proofs.Walk as Walk
 
 -- ---- a number of the code
 abbrev written-as : Bool → ℕ → Operand

@@ -10,7 +10,7 @@ use mathlib.Core.Logic.{inl, inr}
 use lib.ListN.{length, getD, set, drop, length-set, length-append, length-drop}
 use lib.Seq.{drop-cons, set-at, getD-append-seam}
 use lib.Ieee.{Float}
-use Rattle.charts.specs.Runs.{recordAt, records, points, lent}
+use Rattle.walks.specs.Runs.{recordAt, records, points, lent}
 
 pub length-lent : {D : Type 0} (results entry : List D) → length results ≤ length entry → length (lent results entry) ≡ length entry
 length-lent results entry h = length-append results (drop (length results) entry) ∙ ap (λ (k : ℕ). length results + k) (length-drop (length results) entry) ∙ omega arith
