@@ -12,9 +12,9 @@ use lib.ListN.{getD, length}
 use lib.Ieee.{Float, nan, inf, fin, ne, lt}
 use lib.Ieee.Compare.{differs-from-itself}
 use Rattle.floats.specs.MaxMin.{max, min}
-use Rattle.sums.specs.declared.Range.{Range}
-use Rattle.sums.specs.Extremes.{lowestTo, highestTo, rangeOf}
-use Rattle.sums.specs.Blocks.{beyond, Within, Taken}
+use Rattle.extremes.specs.declared.Range.{Range}
+use Rattle.extremes.specs.Extremes.{lowestTo, highestTo, rangeOf}
+use Rattle.extremes.specs.Blocks.{beyond, Within, Taken}
 
 pub lowest-more : (xs : List Float) (i : ℕ) (m : Float) → m ≡ lowestTo xs i → min m (getD xs i nan) ≡ lowestTo xs (i + 1)
 unfolding lowestTo

@@ -1,4 +1,4 @@
--- `sums::extremes::any_beyond` meets its contract. Where none was counted, none is beyond. Assumes nothing.
+-- `extremes::any_beyond` meets its contract. Where none was counted, none is beyond. Assumes nothing.
 use mathlib.Core.Path.{_≡_, sym, _∙_, subst}
 use Prim.Native.Nat.{ℕ, _≤_, _-_, _+_}
 use native.Mathlib.Omega.{arith}
@@ -6,10 +6,10 @@ use native.Mathlib.Nat.{le-antisymm}
 use borrow.Author.Needs.{needs}
 use denote.Ref.{now}
 use borrow.Author.Tests.{ltb-false}
-use Rattle.sums.proofs.ExtremeLaws.{within-none, within-more}
-use Rattle.sums.specs.Blocks.{Within}
-use Rattle.sums.proofs.extremes.any_beyond.Statement.{statement}
-use Rattle.sums.proofs.extremes.any_beyond.Tie as tie
+use Rattle.extremes.proofs.ExtremeLaws.{within-none, within-more}
+use Rattle.extremes.specs.Blocks.{Within}
+use Rattle.extremes.proofs.any_beyond.Statement.{statement}
+use Rattle.extremes.proofs.any_beyond.Tie as tie
 
 abbrev Inv-loop : tie.InvT-loop
 Inv-loop channel start end lo hi count₀ i₀ count i = (i ≤ end) × (count ≤ i) × (count ≡ 0 → Within channel start i (record { lo = lo; hi = hi }))

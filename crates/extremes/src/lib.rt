@@ -1,13 +1,22 @@
-// The range of a channel.
+// The range of a channel: its lowest and its highest reading, NaNs passed over.
+//
+// No function asks anything of its caller. Each result is, to the bit, that of the definition which
+// its contract names (`specs/Extremes`). Blocks of readings that lie within the range so far are
+// passed over, which `specs/Blocks` says and `proofs/ExtremeLaws` shows to change nothing.
 ghost use mathlib.Core.Path.{_≡_};
 ghost use mathlib.Core.Bool.{false};
 ghost use Prim.Native.Nat.{_≤_, _<_};
 ghost use lib.ListN.{length};
-ghost use Rattle.sums.specs.Blocks.{beyond, Within, Taken};
-ghost use Rattle.sums.specs.Extremes.{rangeOf, about};
-use crate::Range;
+ghost use Rattle.extremes.specs.Blocks.{beyond, Within, Taken};
+ghost use Rattle.extremes.specs.Extremes.{rangeOf, about};
 use floats::max;
 use floats::min;
+
+// The lowest and the highest of some readings.
+pub struct Range {
+    pub lo: f64,
+    pub hi: f64,
+}
 
 // Whether one of the readings from a place up to another is beyond a range. Cost: one turn for each of
 // them.

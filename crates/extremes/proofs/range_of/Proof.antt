@@ -1,4 +1,4 @@
--- `sums::extremes::range_of` meets its contract. The loop's invariant: the blocks up to `start` are taken in. Assumes nothing.
+-- `extremes::range_of` meets its contract. The loop's invariant: the blocks up to `start` are taken in. Assumes nothing.
 use mathlib.Core.Path.{refl}
 use Prim.Native.Nat.{_≤_, _-_}
 use native.Mathlib.Omega.{arith}
@@ -6,11 +6,11 @@ use native.Mathlib.Nat.{le-antisymm, le-of-lt}
 use lib.ListN.{length}
 use borrow.Author.Needs.{needs}
 use lib.Ieee.{nanBits, ofBits}
-use Rattle.sums.proofs.ExtremeLaws.{taken-all}
-use Rattle.sums.specs.Blocks.{Taken}
-use Rattle.sums.specs.Extremes.{lowestTo, highestTo}
-use Rattle.sums.proofs.extremes.range_of.Statement.{statement}
-use Rattle.sums.proofs.extremes.range_of.Tie as tie
+use Rattle.extremes.proofs.ExtremeLaws.{taken-all}
+use Rattle.extremes.specs.Blocks.{Taken}
+use Rattle.extremes.specs.Extremes.{lowestTo, highestTo}
+use Rattle.extremes.proofs.range_of.Statement.{statement}
+use Rattle.extremes.proofs.range_of.Tie as tie
 
 abbrev Inv-loop : tie.InvT-loop
 Inv-loop channel size range₀ start₀ range start = (start ≤ length channel) × Taken channel start range

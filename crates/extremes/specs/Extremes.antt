@@ -5,7 +5,7 @@ use lib.ListN.{length, getD}
 use lib.Ieee.{Float, nan}
 use Rattle.floats.specs.Numbers.{_-ᶠ_, +∞, -∞}
 use Rattle.floats.specs.MaxMin.{max, min}
-use Rattle.sums.specs.declared.Range.{Range}
+use Rattle.extremes.specs.declared.Range.{Range}
 
 -- the lowest of the first i readings, from +infinity on; min passes NaN over
 unfoldable pub lowestTo : List Float → ℕ → Float

@@ -6,8 +6,8 @@ use mathlib.Core.List.{List}
 use lib.ListN.{getD}
 use lib.Ieee.{Float, nan}
 use Rattle.floats.specs.Numbers.{_<ᶠ_}
-use Rattle.sums.specs.declared.Range.{Range}
-use Rattle.sums.specs.Extremes.{lowestTo, highestTo}
+use Rattle.extremes.specs.declared.Range.{Range}
+use Rattle.extremes.specs.Extremes.{lowestTo, highestTo}
 
 -- below lo or above hi
 abbrev pub beyond : Float → Float → Float → Bool

@@ -1,13 +1,13 @@
--- `sums::extremes::taken_in` meets its contract. The loop's invariant: the readings up to i are taken in. Assumes nothing.
+-- `extremes::taken_in` meets its contract. The loop's invariant: the readings up to i are taken in. Assumes nothing.
 use mathlib.Core.Path.{_≡_, ap, _∙_}
 use Prim.Native.Nat.{_≤_, _-_}
 use native.Mathlib.Omega.{arith}
 use native.Mathlib.Nat.{le-antisymm}
 use borrow.Author.Needs.{needs}
-use Rattle.sums.proofs.ExtremeLaws.{lowest-more, highest-more}
-use Rattle.sums.specs.Extremes.{lowestTo, highestTo}
-use Rattle.sums.proofs.extremes.taken_in.Statement.{statement}
-use Rattle.sums.proofs.extremes.taken_in.Tie as tie
+use Rattle.extremes.proofs.ExtremeLaws.{lowest-more, highest-more}
+use Rattle.extremes.specs.Extremes.{lowestTo, highestTo}
+use Rattle.extremes.proofs.taken_in.Statement.{statement}
+use Rattle.extremes.proofs.taken_in.Tie as tie
 
 abbrev Inv-loop : tie.InvT-loop
 Inv-loop channel start end lo₀ hi₀ i₀ lo hi i = (i ≤ end) × (lo ≡ lowestTo channel i) × (hi ≡ highestTo channel i)

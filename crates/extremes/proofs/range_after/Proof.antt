@@ -1,8 +1,8 @@
--- `sums::extremes::range_after` meets its contract. Assumes nothing.
+-- `extremes::range_after` meets its contract. Assumes nothing.
 use borrow.Author.Needs.{needs}
-use Rattle.sums.proofs.ExtremeLaws.{taken-on}
-use Rattle.sums.proofs.extremes.range_after.Statement.{statement}
-use Rattle.sums.proofs.extremes.range_after.Tie as tie
+use Rattle.extremes.proofs.ExtremeLaws.{taken-on}
+use Rattle.extremes.proofs.range_after.Statement.{statement}
+use Rattle.extremes.proofs.range_after.Tie as tie
 
 any-beyond-requires : tie.Need-any-beyond-requires
 any-beyond-requires c κs = search needs
