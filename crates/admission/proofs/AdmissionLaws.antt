@@ -24,7 +24,7 @@ use Rattle.readings.specs.declared.Shaped.the-variants as Shaped
 use Rattle.readings.specs.declared.Checked.{Checked}
 use Rattle.readings.specs.declared.Checked.the-variants as Checked
 use Rattle.readings.proofs.LengthLaws.{said-in-order}
-use Rattle.readings.proofs.ViewLaws.{channels-fill}
+use Rattle.readings.proofs.ShapeLaws.{channels-fill}
 use Rattle.admission.specs.Tests.{badPenalty, shortRoom, roomTests, searchTests, passed, admittedAs, Admitted}
 
 -- ---- any list of tests

@@ -12,15 +12,15 @@ use lib.Ieee.{Float, nan}
 use Rattle.refusals.specs.Stated.{stated}
 use Rattle.refusals.specs.Said.{Said, refused, answered, tried}
 use Rattle.refusals.specs.declared.Refusal.the-variants as Refusal
+use Rattle.walks.specs.Runs.{stateAt, records, points, lent}
+use Rattle.walks.proofs.Runs.{lent-more, length-lent, points-few, written, written-lent}
 use Rattle.charts.specs.declared.Charted.{Charted}
 use Rattle.charts.specs.declared.Charted.the-variants as Charted
 use Rattle.charts.specs.declared.Signalled.the-variants as Signalled
 use Rattle.charts.specs.Answers.{signalled, chartAnswer, admittedAs, countOf, signalledAs}
-use Rattle.charts.specs.Runs.{stateAt, records, points, lent}
 use Rattle.charts.specs.Contracts.{Analyzed, Noted, Stands, Marked, marks}
 use Rattle.charts.proofs.Answers.{admitted-says, within-both}
 use Rattle.charts.proofs.Outcomes.{analyzed-once}
-use Rattle.charts.proofs.Runs.{lent-more, length-lent, points-few, written, written-lent}
 
 module _ {C S D : Type 0} (shown : S → D) (start : C → S) (step : C → S → ℕ → Float → S) (signals : D → Bool) (c : C) (xs : List Float) (n : ℕ) (entry : List ℕ) where
   -- after i readings the state is s, and the indices among them that signal stand at the front of l

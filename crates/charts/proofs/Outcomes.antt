@@ -4,9 +4,9 @@ use Prim.Native.Nat.{ℕ}
 use mathlib.Core.Bool.{Bool}
 use mathlib.Core.List.{List}
 use Rattle.floats.proofs.Outcomes.{one-outcome}
+use Rattle.walks.specs.Runs.{lent}
 use Rattle.charts.specs.declared.Charted.{Charted}
 use Rattle.charts.specs.declared.Signalled.{Signalled}
-use Rattle.charts.specs.Runs.{lent}
 use Rattle.charts.specs.Answers.{countOf}
 use Rattle.charts.specs.Contracts.{Analyzed, Marked, marks}
 use Rattle.charts.proofs.Answers.{charted-apart, signalled-apart}

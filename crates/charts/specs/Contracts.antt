@@ -5,11 +5,11 @@ use mathlib.Core.Bool.{Bool, _&&_, cond}
 use mathlib.Core.List.{List, [], _∷_}
 use lib.Dec.{ltb}
 use lib.ListN.{length, set}
+use Rattle.walks.specs.Runs.{lent}
 use Rattle.charts.specs.declared.Charted.{Charted}
 use Rattle.charts.specs.declared.Signalled.{Signalled}
 use Rattle.charts.specs.declared.Signalled.the-variants as Signalled
 use Rattle.charts.specs.Answers.{charted, signalled, chartAnswer, countOf}
-use Rattle.charts.specs.Runs.{lent}
 
 -- `analyze` of n readings: the answer, and the records at the front of the lent ones, none where it refuses
 pub record Analyzed {D : Type 0} (accepted : Bool) (n : ℕ) (records : ℕ → List D) (entry : List D) (r : Charted) (exit : List D) : Type 0 where

@@ -1,6 +1,6 @@
-// What the charts share: the index of an observation and the place on a chart, the answers, the order
-// of a chart's refusals, and, in `proofs/Walk`, the walk of the loop that fills a lent slice of
-// records, proved once for any record and state.
+// What the charts share: the index of an observation and the place on a chart, the answers, and the
+// order of a chart's refusals. What a run over a series is, and the walk of the loop that fills a lent
+// slice of records, stand in crate `walks`.
 //
 // No function asks anything of its caller. A chart's refusals are 11, 6 and 7, tried in that order.
 ghost use mathlib.Core.Path.{_≡_};

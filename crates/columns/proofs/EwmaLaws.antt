@@ -7,7 +7,7 @@ use native.Mathlib.Omega.{arith}
 use lib.ListN.{length, set}
 use lib.Ieee.{Float, nan}
 use Rattle.charts.proofs.Answers.{within-both}
-use Rattle.charts.proofs.Columns.{Going, filled-length, one-gone, one-filled, all-filled}
+use Rattle.walks.proofs.Columns.{Going, filled-length, one-gone, one-filled, all-filled}
 use Rattle.ewma.specs.declared.Ewma.{Ewma}
 use Rattle.ewma.specs.declared.State.{State}
 use Rattle.ewma.specs.Chart.{shownOf, startState, nextState, followingState}

@@ -4,7 +4,7 @@ use mathlib.Core.Path.{_≡_}
 use mathlib.Core.List.{List}
 use lib.ListN.{length}
 use lib.Ieee.{Float}
-use Rattle.charts.specs.Runs.{column}
+use Rattle.walks.specs.Runs.{column}
 use Rattle.ewma.specs.declared.Ewma.{Ewma}
 use Rattle.ewma.specs.declared.EwmaResult.{EwmaResult}
 use Rattle.ewma.specs.Chart.{accepted, records}

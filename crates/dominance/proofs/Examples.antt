@@ -11,7 +11,7 @@ use Rattle.elementary.specs.Root.{sqrt}
 use Rattle.readings.specs.Parts.{part}
 use Rattle.readings.specs.Channels.{hasChannel, channelOf}
 use Rattle.sums.specs.Sums.{sumTo, meanOf, centred, centredTo, squaresTo}
-use Rattle.sums.specs.Extremes.{lowestTo, highestTo, rangeOf}
+use Rattle.extremes.specs.Extremes.{lowestTo, highestTo, rangeOf}
 use Rattle.costs.specs.Costs.{segmentAbout, segmentOf, l2Cost, costOf, costTo}
 use Rattle.recurrence.specs.Minimum.{noneYet, betterOf, scanTo}
 use Rattle.candidate.specs.Boxes.{spanAt, withSpan, overChannels, alongEach, gap2, narrowed, missed, nothing, restrict, isDominated}

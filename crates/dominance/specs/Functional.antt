@@ -9,8 +9,8 @@ use Rattle.floats.specs.Numbers.{_+ᶠ_, _-ᶠ_, _*ᶠ_, _/ᶠ_, +0, whole, rat
 use Rattle.floats.specs.Finite.{abs}
 use Rattle.readings.specs.Channels.{channelOf}
 use Rattle.sums.specs.Sums.{meanOf}
-use Rattle.sums.specs.Extremes.{rangeOf, about}
-use Rattle.sums.specs.declared.Range.{Range}
+use Rattle.extremes.specs.Extremes.{rangeOf, about}
+use Rattle.extremes.specs.declared.Range.{Range}
 use Rattle.costs.specs.Costs.{segmentOf, costTo}
 use Rattle.costs.specs.declared.CostFunction.the-variants.{L2}
 use Rattle.recurrence.specs.declared.Best.{Best}

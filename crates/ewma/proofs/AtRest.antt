@@ -13,12 +13,12 @@ use lib.Ieee.{Float, nan, inf, fin, up, down, mul, le, ofInt}
 use lib.Ieee.Fits.{down-pos}
 use Rattle.floats.specs.Numbers.{_-ᶠ_, _*ᶠ_, _≤ᶠ_}
 use Rattle.elementary.specs.Power.{powFrom, powi}
-use Rattle.charts.specs.Runs.{stateAt, recordAt}
+use Rattle.walks.specs.Runs.{stateAt, recordAt}
 use Rattle.charts.specs.declared.Place.{Place}
 use Rattle.charts.specs.Answers.{admittedAs, countOf}
 use Rattle.charts.proofs.Answers.{few-records}
 use Rattle.charts.proofs.Loops.{analyzed}
-use Rattle.charts.proofs.Runs.{written}
+use Rattle.walks.proofs.Runs.{written}
 use Rattle.ewma.specs.declared.Ewma.{Ewma}
 use Rattle.ewma.specs.declared.EwmaResult.{EwmaResult}
 use Rattle.ewma.specs.declared.State.{State}

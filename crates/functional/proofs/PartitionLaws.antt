@@ -14,7 +14,7 @@ use Rattle.readings.specs.Parts.{part, tab}
 use Rattle.readings.proofs.PartLaws.{part-above, store, frame-set}
 use Rattle.areas.specs.Cleared.{Cleared}
 use Rattle.areas.proofs.ClearedLaws.{cleared-part, cleared-whole, cleared-tail}
-use Rattle.sums.specs.declared.Range.{Range}
+use Rattle.extremes.specs.declared.Range.{Range}
 use Rattle.sums.specs.EachChannel.{RanEach}
 use Rattle.sums.proofs.ChannelLaws.{fits, sums-kept}
 use Rattle.recurrence.specs.Room.{searchFits}

@@ -2,15 +2,15 @@
 ghost use mathlib.Core.Path.{_≡_};
 ghost use Rattle.floats.specs.Numbers.{+0};
 ghost use Rattle.readings.specs.Channels.{channelOf};
+ghost use Rattle.extremes.specs.Extremes.{rangeOf, about};
 ghost use Rattle.sums.specs.Sums.{meanOf};
-ghost use Rattle.sums.specs.Extremes.{rangeOf, about};
 ghost use Rattle.dominance.specs.Functional.{rangeBox};
 use candidate::Candidate;
+use extremes::Range;
+use extremes::range_about;
+use extremes::range_of;
 use readings::channel;
-use sums::Range;
 use sums::mean;
-use sums::range_about;
-use sums::range_of;
 
 // Cost: two turns for each reading of the channel.
 fn range_along(run: &[f64], n: usize, k: usize) -> Range

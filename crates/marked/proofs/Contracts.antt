@@ -7,7 +7,7 @@ use lib.ListN.{length}
 use lib.Ieee.{Float}
 use Rattle.charts.specs.Answers.{charted, signalled}
 use Rattle.charts.specs.Contracts.{Analyzed, Marked}
-use Rattle.charts.specs.Runs.{lent}
+use Rattle.walks.specs.Runs.{lent}
 use Rattle.charts.specs.declared.Charted.{Charted}
 use Rattle.charts.specs.declared.Charted.the-variants as Charted
 use Rattle.charts.specs.declared.Signalled.{Signalled}

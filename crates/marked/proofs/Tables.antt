@@ -15,7 +15,7 @@ use Rattle.readings.specs.Shape.{totalTo, sameTo, shapeTests}
 use Rattle.readings.specs.Gaps.{gapTo, channelAt, indexAt}
 use Rattle.readings.specs.Channels.{hasChannel, channelOf}
 use Rattle.sums.specs.Sums.{sumTo, meanOf, centred, centredTo, squaresTo}
-use Rattle.sums.specs.Extremes.{lowestTo, highestTo, rangeOf}
+use Rattle.extremes.specs.Extremes.{lowestTo, highestTo, rangeOf}
 use Rattle.noise.specs.Order.{insert, sorted}
 use Rattle.noise.specs.Median.{differenceAt, differences, median}
 use Rattle.noise.specs.Noise.{spreadOf, floorOf, noise, noiseSumTo}

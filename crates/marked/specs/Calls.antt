@@ -10,7 +10,7 @@ use Rattle.refusals.specs.Said.{Said, refused, answered, tried}
 use Rattle.refusals.specs.declared.Refusal.{Refusal}
 use Rattle.readings.specs.Shape.{firstLength}
 use Rattle.charts.specs.Answers.{chartAnswer}
-use Rattle.charts.specs.Runs.{lent}
+use Rattle.walks.specs.Runs.{lent}
 use Rattle.cusum.specs.Chart as Cusum
 use Rattle.cusum.specs.RunLength as RunLength
 use Rattle.cusum.specs.declared.Cusum.{Cusum}

@@ -8,7 +8,7 @@ use Rattle.floats.specs.Finite.{abs}
 use Rattle.floats.specs.MaxMin.{max, min}
 use Rattle.readings.specs.Parts.{part, tab}
 use Rattle.readings.specs.Channels.{hasChannel, channelOf}
-use Rattle.sums.specs.Extremes.{lowestTo, highestTo, rangeOf}
+use Rattle.extremes.specs.Extremes.{lowestTo, highestTo, rangeOf}
 use Rattle.floats.specs.Ahead.{ahead}
 use Rattle.noise.specs.Order.{insert, sorted}
 use Rattle.noise.specs.Median.{differenceAt, differences, median}

@@ -17,7 +17,7 @@ use Rattle.readings.specs.Channels.{hasChannel, channelOf}
 use Rattle.readings.proofs.PartLaws.{part-length}
 use Rattle.areas.specs.Cleared.{Cleared}
 use Rattle.areas.proofs.ClearedLaws.{cleared-part}
-use Rattle.sums.specs.Extremes.{rangeOf}
+use Rattle.extremes.specs.Extremes.{rangeOf}
 use Rattle.noise.specs.Median.{differences, median}
 use Rattle.noise.specs.Noise.{spreadOf, floorOf, squared, noise, noiseSumTo, hasRoom, cleared, Lent}
 

@@ -9,8 +9,8 @@ use lib.Ieee.{Float, nan}
 use Rattle.floats.specs.Numbers.{_+ᶠ_, _-ᶠ_, _*ᶠ_, _/ᶠ_, +0, ratio}
 use Rattle.floats.specs.MaxMin.{max}
 use Rattle.readings.specs.Channels.{channelOf}
-use Rattle.sums.specs.Extremes.{rangeOf}
-use Rattle.sums.specs.declared.Range.{Range}
+use Rattle.extremes.specs.Extremes.{rangeOf}
+use Rattle.extremes.specs.declared.Range.{Range}
 use Rattle.noise.specs.Median.{differences, median}
 
 -- a median of differences over 0.6745 * 1.4142135623730951

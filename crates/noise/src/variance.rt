@@ -6,9 +6,9 @@ ghost use lib.ListN.{length};
 ghost use Rattle.noise.specs.Noise.{hasRoom, noise, noiseSumTo, cleared, Lent};
 use crate::middle::median_difference;
 use areas::clear_floats;
+use extremes::range_of;
 use floats::max;
 use readings::channel;
-use sums::range_of;
 
 // How many differences n readings have.
 fn steps(n: usize) -> usize

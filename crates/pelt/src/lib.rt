@@ -2,8 +2,8 @@
 //
 // Every call ends with the cuts or a numbered refusal, and asks nothing of its caller. `specs/Detected`
 // says what is answered and what every lent area holds afterwards, by the refusals of crate `admission`
-// and the cuts of crate `finding`. That one outcome meets it, and what demand 2 says of the cuts, is
-// proved in `finding/proofs` (`Outcomes`, `CutLaws`).
+// and the cuts of crate `searches`. That one outcome meets it, and what demand 2 says of the cuts, is
+// proved in `searches/proofs` (`Outcomes`, `CutLaws`).
 use costs::CostFunction;
 use costs::Penalty;
 pub use finding::Searched;

@@ -3,4 +3,4 @@ pub mod LengthLaws
 pub mod GapLaws
 pub mod ChannelLaws
 pub mod Examples
-pub mod ViewLaws
+pub mod ShapeLaws

@@ -2,4 +2,3 @@ pub mod Parts
 pub mod Shape
 pub mod Gaps
 pub mod Channels
-pub mod View

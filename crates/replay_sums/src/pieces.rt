@@ -21,7 +21,7 @@ fn without_sign_of_zero(x: f64) -> u64 {
 // The channel's mean and range; what is stored of them begins at the fifth byte.
 fn match_range(progress: Progress, channel: &[f64], place: &[u8; 33]) -> Progress {
     let mean = sums::mean(channel);
-    let range = sums::range_about(sums::range_of(channel), mean);
+    let range = extremes::range_about(extremes::range_of(channel), mean);
     let lo = without_sign_of_zero(range.lo);
     let hi = without_sign_of_zero(range.hi);
     let first = progress.matched(b"mean", 0, number(place, 4, 8), without_sign_of_zero(mean));

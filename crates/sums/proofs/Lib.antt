@@ -1,4 +1,3 @@
 pub mod SumLaws
-pub mod ExtremeLaws
 pub mod Outcomes
 pub mod ChannelLaws

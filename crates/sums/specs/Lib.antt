@@ -1,4 +1,2 @@
 pub mod Sums
-pub mod Extremes
 pub mod EachChannel
-pub mod Blocks

@@ -1,22 +1,13 @@
-// Sums over a channel: its mean, the running sums of its readings less that mean and of their squares,
-// its range; and the running sums of all channels of a run in one area.
+// Sums over a channel: its mean, the running sums of its readings less that mean and of their squares;
+// and the running sums of all channels of a run in one area.
 //
 // No function asks anything of its caller. Each result is, to the bit, that of the definition which
-// its contract names; NaN and infinities flow through as IEEE 754 says. `specs/Sums`,
-// `specs/EachChannel` and `specs/Extremes` have the definitions.
+// its contract names; NaN and infinities flow through as IEEE 754 says. `specs/Sums` and
+// `specs/EachChannel` have the definitions.
 mod channels;
-mod extremes;
 mod running;
 mod total;
 
 pub use channels::channel_sums;
-pub use extremes::range_about;
-pub use extremes::range_of;
 pub use running::cumulative_sums;
 pub use total::mean;
-
-// The lowest and the highest of some readings.
-pub struct Range {
-    pub lo: f64,
-    pub hi: f64,
-}

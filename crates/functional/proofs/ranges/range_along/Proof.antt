@@ -5,9 +5,9 @@ use borrow.Author.Needs.{needs}
 use Rattle.functional.proofs.ranges.range_along.Statement.{statement}
 use Rattle.functional.proofs.ranges.range_along.Tie as tie
 use Rattle.sums.specs.Sums.{meanOf}
-use Rattle.sums.specs.Extremes.{rangeOf, about}
+use Rattle.extremes.specs.Extremes.{rangeOf, about}
 use mathlib.Core.Path.{ap₂}
-use Rattle.sums.specs.declared.Range.{Range}
+use Rattle.extremes.specs.declared.Range.{Range}
 
 channel-requires : tie.Need-channel-requires
 channel-requires c κs = search needs

@@ -1,0 +1,2 @@
+pub mod Extremes
+pub mod Blocks

@@ -1,0 +1,5 @@
+pub mod Plain
+pub mod Runs
+pub mod Columns
+pub mod Walk
+pub mod ByValue
