@@ -16,8 +16,8 @@ use Rattle.readings.specs.Gaps.{gapTo, channelAt, indexAt}
 use Rattle.readings.specs.Channels.{hasChannel, channelOf}
 use Rattle.sums.specs.Sums.{sumTo, meanOf, centred, centredTo, squaresTo}
 use Rattle.extremes.specs.Extremes.{lowestTo, highestTo, rangeOf}
-use Rattle.noise.specs.Order.{insert, sorted}
-use Rattle.noise.specs.Median.{differenceAt, differences, median}
+use Rattle.medians.specs.Order.{insert, sorted}
+use Rattle.medians.specs.Median.{differenceAt, differences, median}
 use Rattle.noise.specs.Noise.{spreadOf, floorOf, noise, noiseSumTo}
 use Rattle.costs.specs.Costs.{segmentAbout, segmentOf, l2Cost, smallestNormal, normalCost, costOf, costTo}
 use Rattle.costs.specs.Penalties.{bicPenalty, penaltyOf}

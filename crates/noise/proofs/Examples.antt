@@ -10,8 +10,8 @@ use Rattle.readings.specs.Parts.{part, tab}
 use Rattle.readings.specs.Channels.{hasChannel, channelOf}
 use Rattle.extremes.specs.Extremes.{lowestTo, highestTo, rangeOf}
 use Rattle.floats.specs.Ahead.{ahead}
-use Rattle.noise.specs.Order.{insert, sorted}
-use Rattle.noise.specs.Median.{differenceAt, differences, median}
+use Rattle.medians.specs.Order.{insert, sorted}
+use Rattle.medians.specs.Median.{differenceAt, differences, median}
 use Rattle.noise.specs.Noise.{spreadOf, floorOf, noise, noiseSumTo, hasRoom, cleared}
 
 -- differences 3 1 2: the middle one is 2

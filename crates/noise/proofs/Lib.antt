@@ -1,11 +1,3 @@
-pub mod OrderLaws
-pub mod CountLaws
-pub mod MagnitudeLaws
-pub mod SortLaws
-pub mod RankLaws
-pub mod MedianLaws
 pub mod NoiseLaws
 pub mod Outcomes
 pub mod Examples
-pub mod KeptLaws
-pub mod BracketLaws

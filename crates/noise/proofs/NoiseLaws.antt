@@ -18,7 +18,8 @@ use Rattle.readings.proofs.PartLaws.{part-length}
 use Rattle.areas.specs.Cleared.{Cleared}
 use Rattle.areas.proofs.ClearedLaws.{cleared-part}
 use Rattle.extremes.specs.Extremes.{rangeOf}
-use Rattle.noise.specs.Median.{differences, median}
+use Rattle.medians.specs.Median.{differences, median, Found}
+use Rattle.medians.proofs.MedianLaws.{found-median}
 use Rattle.noise.specs.Noise.{spreadOf, floorOf, squared, noise, noiseSumTo, hasRoom, cleared, Lent}
 
 -- ---- the variance
@@ -65,6 +66,14 @@ unfolding cleared part
 part-cleared area ys n place k h e f =
     let g : ys ≡ replicate k +0 = f ∙ ap (λ (m : ℕ). replicate m +0) (part-length area place k (omega arith)) in
     rw (g, drop-drop k place area, e)
+
+-- the median by way of those places
+pub part-median : (channel area ys : List Float) (place k : ℕ) {r : Float} → place + (length channel - 1) ≤ length area → 2 ≤ length channel → k ≡ length channel - 1 → Found channel (take k (drop place area)) ys r
+    → (r ≡ median (differences channel)) × (ys ≡ replicate (length (take k (drop place area))) +0)
+unfolding part
+part-median channel area ys place k h l e f =
+    let s : length (take k (drop place area)) ≡ k = part-length area place k (omega arith) in
+    found-median (omega (arith, s, e, l)) (omega (arith, s, e, l)) f
 
 pub place-cleared : (area ys : List Float) (n place k : ℕ) → place + (n - 1) ≤ length area → k ≡ n - 1 → Cleared +0 area ys place k → ys ≡ cleared area n place
 unfolding cleared part

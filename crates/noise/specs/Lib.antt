@@ -1,4 +1,1 @@
-pub mod Order
-pub mod Median
 pub mod Noise
-pub mod Ranks

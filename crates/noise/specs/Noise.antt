@@ -11,7 +11,7 @@ use Rattle.floats.specs.MaxMin.{max}
 use Rattle.readings.specs.Channels.{channelOf}
 use Rattle.extremes.specs.Extremes.{rangeOf}
 use Rattle.extremes.specs.declared.Range.{Range}
-use Rattle.noise.specs.Median.{differences, median}
+use Rattle.medians.specs.Median.{differences, median}
 
 -- a median of differences over 0.6745 * 1.4142135623730951
 unfoldable pub spreadOf : Float → Float

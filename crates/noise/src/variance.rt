@@ -4,10 +4,10 @@ ghost use mathlib.Core.Bool.{true};
 ghost use Prim.Native.Nat.{_-_};
 ghost use lib.ListN.{length};
 ghost use Rattle.noise.specs.Noise.{hasRoom, noise, noiseSumTo, cleared, Lent};
-use crate::middle::median_difference;
 use areas::clear_floats;
 use extremes::range_of;
 use floats::max;
+use medians::median_difference;
 use readings::channel;
 
 // How many differences n readings have.

@@ -12,7 +12,7 @@ use Rattle.floats.specs.MaxMin.{max}
 use Rattle.floats.proofs.Order.Zero.{zero-by-zero}
 use Rattle.extremes.specs.declared.Range.{Range}
 use Rattle.noise.specs.Noise.{spreadOf, floorOf, hasRoom}
-use Rattle.noise.proofs.NoiseLaws.{has-room, noise-of-few, noise-of-many, nothing-cleared, part-cleared, lent-found, lent-nothing}
+use Rattle.noise.proofs.NoiseLaws.{has-room, noise-of-few, noise-of-many, nothing-cleared, part-median, part-cleared, lent-found, lent-nothing}
 use mathlib.Core.Bool.{true}
 use Rattle.noise.proofs.variance.noise_variance.Tie as tie
 
@@ -63,10 +63,11 @@ returns-2 c =
     let a = c .before .before .before .before .before .before .before .before .before .before .before .before .args in
     let m = c .before .before .before .before .before .median-difference in
     let e : a .place + (length (now (a .channel)) - 1) - a .place ≡ length (now (a .channel)) - 1 = omega arith in
+    let room = has-room _ _ _ (there (c .before .before .before .before .before .before .before .before)) in
+    let many = c .before .before .before .before .before .before .before .if2 .left in
+    let found = part-median _ _ _ (a .place) _ room many e (m .ensures) in
     let f = c .max .ensures ∙ ap (λ (r : Range). max (spreadOf (m .result)) (floorOf r)) (c .before .before .range-of .ensures) in
-    lent-found (there (c .before .before .before .before .before .before .before .before))
-    (noise-of-many _ _ _ (c .before .before .before .before .before .before .before .if2 .left) (m .ensures .0) f)
-    (part-cleared _ _ _ _ _ (has-room _ _ _ (there (c .before .before .before .before .before .before .before .before))) e (m .ensures .1))
+    lent-found (there (c .before .before .before .before .before .before .before .before)) (noise-of-many _ _ _ many (found .0) f) (part-cleared _ _ _ _ _ room e (found .1))
 
 returns-3 : tie.Need-returns-3
 returns-3 c = lent-nothing (sym (c .before .has-room .ensures) ∙ c .if1 .left) zero-by-zero

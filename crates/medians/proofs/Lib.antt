@@ -1,0 +1,9 @@
+pub mod OrderLaws
+pub mod CountLaws
+pub mod MagnitudeLaws
+pub mod SortLaws
+pub mod RankLaws
+pub mod MedianLaws
+pub mod Outcomes
+pub mod KeptLaws
+pub mod BracketLaws

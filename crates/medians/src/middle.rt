@@ -1,0 +1,147 @@
+// The median of a channel's differences.
+ghost use mathlib.Core.Path.{_≡_};
+ghost use mathlib.Core.Bool.{false};
+ghost use Prim.Native.Nat.{_+_, _-_, _≤_, _<_};
+ghost use lib.ListN.{length, replicate};
+ghost use Rattle.floats.specs.Numbers.{+0};
+ghost use Rattle.medians.specs.Ranks.{Each, magnitude, rankedOf, Around, wide, middlesOf};
+ghost use Rattle.medians.specs.Median.{differences, median, fitsRun, Found};
+use crate::Bracket;
+use crate::Middles;
+use crate::narrow::count_below;
+use crate::narrow::narrowed;
+use crate::narrow::widest;
+use crate::rank::gather;
+use crate::rank::guessed;
+use crate::rank::ranked;
+use areas::clear_floats;
+use floats::from_bits;
+
+// Cost: one turn for each difference.
+fn difference(channel: &[f64], run: &mut [f64])
+    requires { ⌜ length (now run) + 1 ≡ length (now channel) ⌝ }
+    ensures { λ r. ⌜ now (run .exit) ≡ differences (now (channel .entry)) ⌝ }
+{
+    let mut i = 0;
+    while i < run.len() {
+        run[i] = floats::abs(channel[i + 1] - channel[i]);
+        i += 1;
+    }
+}
+
+// The values at two places, each found by itself. Cost: those of finding one value by its rank, or two.
+fn one_by_one(run: &[f64], first: usize, second: usize) -> Middles
+    requires { ⌜ (first < length (now run)) × (second < length (now run)) × Each magnitude (now run) ⌝ }
+    ensures { λ r. ⌜ (r .low ≡ rankedOf (now (run .entry)) first) × (r .high ≡ rankedOf (now (run .entry)) second) ⌝ }
+{
+    let low = ranked(run, first);
+    if first == second {
+        return Middles { low, high: low };
+    }
+    let high = ranked(run, second);
+    Middles { low, high }
+}
+
+// The values at two places within a bracket that has few values: they are found among those alone.
+fn among_few(run: &[f64], b: Bracket, first: usize, second: usize) -> Middles
+    requires { ⌜ Around (now run) first b × (first ≤ second) × (second < b .upto) × (b .upto - b .under ≤ 256) × Each magnitude (now run) ⌝ }
+    ensures { λ r. ⌜ (r .low ≡ rankedOf (now (run .entry)) first) × (r .high ≡ rankedOf (now (run .entry)) second) ⌝ }
+{
+    let mut part = [0.0; 256];
+    let size = gather(run, from_bits(b.low), from_bits(b.high), &mut part);
+    let low = ranked(&part[..size], first - b.under);
+    if first == second {
+        return Middles { low, high: low };
+    }
+    let high = ranked(&part[..size], second - b.under);
+    Middles { low, high }
+}
+
+// The values at two places within a bracket. One that has many values has one pattern.
+fn within_bracket(run: &[f64], b: Bracket, first: usize, second: usize) -> Middles
+    requires { ⌜ Around (now run) first b × (wide b 1 256 ≡ false) × (first ≤ second) × (second < b .upto) × Each magnitude (now run) ⌝ }
+    ensures { λ r. ⌜ (r .low ≡ rankedOf (now (run .entry)) first) × (r .high ≡ rankedOf (now (run .entry)) second) ⌝ }
+{
+    if b.upto - b.under <= 256 {
+        return among_few(run, b, first, second);
+    }
+    let value = from_bits(b.low);
+    Middles {
+        low: value,
+        high: value,
+    }
+}
+
+// A bracket around the value at a place that has one pattern or at most 256 values. Where more values lie
+// within 2^46 patterns, most are likely to be equal. Cost: some 15 passes over the run, some 20 where many
+// values are equal, and at most 66.
+fn near_middle(run: &[f64], place: usize, start: Bracket) -> Bracket
+    requires { ⌜ Around (now run) place start ⌝ }
+    ensures { λ r. ⌜ Around (now (run .entry)) place r × (wide r 1 256 ≡ false) ⌝ }
+{
+    let b = narrowed(run, place, start, 0x4000_0000_0000, 256);
+    if b.upto - b.under <= 256 {
+        return b;
+    }
+    narrowed(run, place, guessed(run, place, b), 1, 256)
+}
+
+// The two middle values of a run. Cost: that of a bracket around them, and at most twice that of finding a
+// value by its rank.
+fn middles(run: &[f64]) -> Middles
+    requires { ⌜ (0 < length (now run)) × Each magnitude (now run) ⌝ }
+    ensures { λ r. ⌜ r ≡ middlesOf (now (run .entry)) ⌝ }
+{
+    let first = (run.len() - 1) / 2;
+    let second = run.len() / 2;
+    if run.len() <= 256 {
+        return one_by_one(run, first, second);
+    }
+    let finite = count_below(run, f64::from_bits(0x7ff0_0000_0000_0000));
+    if finite <= second {
+        return one_by_one(run, first, second);
+    }
+    let b = near_middle(run, first, widest(finite));
+    if b.upto <= second {
+        return one_by_one(run, first, second);
+    }
+    within_bracket(run, b, first, second)
+}
+
+// The median of one difference or more, worked out in a run that is +0 afterwards.
+fn worked_out(channel: &[f64], run: &mut [f64]) -> f64
+    requires { ⌜ (length (now run) + 1 ≡ length (now channel)) × (0 < length (now run)) ⌝ }
+    ensures { λ r. ⌜ (r ≡ median (differences (now (channel .entry)))) × (now (run .exit) ≡ replicate (length (now (run .entry))) +0) ⌝ }
+{
+    difference(channel, run);
+    let two = middles(run);
+    let size = run.len();
+    clear_floats(run, 0, size);
+    if size % 2 == 1 {
+        return two.high;
+    }
+    0.5 * (two.low + two.high)
+}
+
+// Whether a run of so many places has one for each difference of these readings, and at least one.
+fn fits(places: usize, readings: usize) -> bool
+    ensures { λ r. ⌜ r ≡ fitsRun places readings ⌝ }
+{
+    if 0 < places {
+        if places < readings {
+            return readings - places == 1;
+        }
+    }
+    false
+}
+
+// The median of the differences, worked out in a run with a place for each, which is +0 afterwards.
+// Cost: some 15 passes over the run, and at most 63 for each of the two middle values.
+pub fn median_difference(channel: &[f64], run: &mut [f64]) -> f64
+    ensures { λ r. ⌜ Found (now (channel .entry)) (now (run .entry)) (now (run .exit)) r ⌝ }
+{
+    if fits(run.len(), channel.len()) {
+        return worked_out(channel, run);
+    }
+    0.0 / 0.0
+}

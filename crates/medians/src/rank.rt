@@ -1,0 +1,98 @@
+// The value at a place of a run in order, found by its bit pattern without putting the run in order.
+ghost use mathlib.Core.Path.{_≡_};
+ghost use Prim.Native.Nat.{_≤_, _<_};
+ghost use lib.ListN.{length, take};
+ghost use Rattle.medians.specs.Ranks.{Each, magnitude, count, numbers, rankedOf, Around, between, kept};
+use crate::Bracket;
+use crate::narrow::count_below;
+use crate::narrow::narrowed;
+use crate::narrow::tried;
+use crate::narrow::widest;
+
+// How many values are not NaN. Cost: one turn for each value.
+fn count_numbers(run: &[f64]) -> usize
+    ensures { λ r. ⌜ r ≡ numbers (now (run .entry)) ⌝ }
+{
+    let mut count = 0;
+    let mut i = 0;
+    while i < run.len() {
+        let value = run[i];
+        i += 1;
+        if value == value {
+            count += 1;
+        }
+    }
+    count
+}
+
+// The value at a place of the run in order, of which none has a sign. Cost: at most 65 passes over the
+// run, whatever its order.
+pub(crate) fn ranked(run: &[f64], place: usize) -> f64
+    requires { ⌜ (place < length (now run)) × Each magnitude (now run) ⌝ }
+    ensures { λ r. ⌜ r ≡ rankedOf (now (run .entry)) place ⌝ }
+{
+    let infinity = f64::from_bits(0x7ff0_0000_0000_0000);
+    let finite = count_below(run, infinity);
+    if finite <= place {
+        if count_numbers(run) <= place {
+            return 0.0 / 0.0;
+        }
+        return infinity;
+    }
+    floats::from_bits(narrowed(run, place, widest(finite), 1, 0).low)
+}
+
+// Whether a value is below high and not below low.
+fn is_between(value: f64, low: f64, high: f64) -> bool
+    ensures { λ r. ⌜ r ≡ between low high value ⌝ }
+{
+    (value < high) & !(value < low)
+}
+
+// Copies the values from low up to high into a part, and says how many they are. Cost: one turn for each
+// value.
+pub(crate) fn gather(run: &[f64], low: f64, high: f64, part: &mut [f64]) -> usize
+    requires { ⌜ count (between low high) (now run) ≤ length (now part) ⌝ }
+    ensures { λ r. ⌜ (r ≡ length (kept (between low high) (now (run .entry)))) × (take r (now (part .exit)) ≡ kept (between low high) (now (run .entry))) ⌝ }
+{
+    let mut size = 0;
+    let mut i = 0;
+    while i < run.len() {
+        let value = run[i];
+        i += 1;
+        if is_between(value, low, high) {
+            part[size] = value;
+            size += 1;
+        }
+    }
+    size
+}
+
+// The first value from low up to high, or NaN. It is only tried, so nothing is promised of it. Cost: one
+// turn for each value up to it.
+fn first_between(run: &[f64], low: f64, high: f64) -> f64 {
+    let mut i = 0;
+    while i < run.len() {
+        let value = run[i];
+        if is_between(value, low, high) {
+            return value;
+        }
+        i += 1;
+    }
+    0.0 / 0.0
+}
+
+// The bracket split at the first of its values and just above it, which leaves equal values alone if most
+// of its values are those. Cost: at most three passes over the run.
+pub(crate) fn guessed(run: &[f64], place: usize, b: Bracket) -> Bracket
+    requires { ⌜ Around (now run) place b ⌝ }
+    ensures { λ r. ⌜ Around (now (run .entry)) place r ⌝ }
+{
+    let value = first_between(run, floats::from_bits(b.low), floats::from_bits(b.high));
+    let pattern = floats::to_bits(value);
+    if pattern < b.high {
+        let above = tried(run, place, b, pattern);
+        return tried(run, place, above, pattern + 1);
+    }
+    b
+}
