@@ -28,9 +28,9 @@ use Rattle.areas.specs.Cleared.{Cleared}
 use Rattle.areas.proofs.ClearedLaws.{cleared-part, cleared-whole}
 use Rattle.recurrence.specs.Room.{seriesFits, roomFits, searchFits}
 use Rattle.recurrence.specs.Predecessors.{Sound}
-use Rattle.inequality.specs.Inequality.{predecessors, price}
+use Rattle.pruning.specs.Inequality.{predecessors, price}
+use Rattle.pruning.proofs.SoundLaws.{predecessors-sound, predecessors-long}
 use Rattle.inequality.specs.Pruned.{Pruned}
-use Rattle.inequality.proofs.SoundLaws.{predecessors-sound, predecessors-long}
 use Rattle.dominance.specs.Functional.{Task, functional}
 use Rattle.dominance.specs.Partitioned.{fitsTask, slotsSuffice, indicesAfter, Partitioned}
 use Rattle.dominance.proofs.SoundLaws.{functional-sound, functional-long}

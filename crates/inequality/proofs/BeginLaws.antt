@@ -16,8 +16,8 @@ use Rattle.areas.proofs.ClearedLaws.{cleared-part}
 use Rattle.sums.specs.Sums.{meanOf, centredTo, squaresTo}
 use Rattle.sums.specs.EachChannel.{Sums, RanEach}
 use Rattle.sums.proofs.ChannelLaws.{fits, mul-more, mul-room}
+use Rattle.pruning.specs.Inequality.{stateAfter}
 use Rattle.inequality.specs.declared.Plan.{Plan}
-use Rattle.inequality.specs.Inequality.{stateAfter}
 use Rattle.inequality.specs.Held.{Room, runOf, Holds}
 use Rattle.inequality.proofs.WeightLaws.{twice}
 

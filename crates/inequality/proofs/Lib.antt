@@ -7,5 +7,3 @@ pub mod DecisionLaws
 pub mod StepLaws
 pub mod BeginLaws
 pub mod PrunedLaws
-pub mod SoundLaws
-pub mod Examples

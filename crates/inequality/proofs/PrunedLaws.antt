@@ -13,8 +13,8 @@ use Rattle.areas.proofs.ClearedLaws.{cleared-whole, cleared-tail}
 use Rattle.costs.specs.declared.CostFunction.{CostFunction}
 use Rattle.recurrence.specs.Room.{searchFits}
 use Rattle.recurrence.proofs.RoomLaws.{Series, Roomy, split-floats}
+use Rattle.pruning.specs.Inequality.{predecessors}
 use Rattle.inequality.specs.declared.Plan.{Plan}
-use Rattle.inequality.specs.Inequality.{predecessors}
 use Rattle.inequality.specs.Pruned.{Pruned}
 use Rattle.inequality.specs.Held.{Room, planned, Holds}
 use Rattle.inequality.proofs.WeightLaws.{twice}

@@ -13,8 +13,8 @@ use Rattle.readings.proofs.PartLaws.{part-at, part-length, part-front, part-abo
 use Rattle.sums.proofs.ChannelLaws.{mul-room}
 use Rattle.recurrence.specs.declared.Best.{Best}
 use Rattle.recurrence.specs.Minimum.{keptTo}
+use Rattle.pruning.specs.Inequality.{State, partOf, bestAt, staysAt, stepOf, stateAfter}
 use Rattle.inequality.specs.declared.Plan.{Plan}
-use Rattle.inequality.specs.Inequality.{State, partOf, bestAt, staysAt, stepOf, stateAfter}
 use Rattle.inequality.specs.Held.{Room, planned, runOf, Below, Rising, Shown, Holds}
 use Rattle.inequality.specs.Weights.{Parted, Written, weightBy, lowestBy}
 use Rattle.inequality.specs.Staying.{stayCount, keptBy, Retained, RetainedRuns, Joined}

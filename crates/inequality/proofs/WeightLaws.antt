@@ -21,8 +21,8 @@ use Rattle.costs.specs.Costs.{costOf, l2Cost, smallestNormal, normalCost}
 use Rattle.costs.specs.declared.CostFunction.{CostFunction}
 use Rattle.costs.specs.declared.CostFunction.the-variants.{L2, Normal}
 use Rattle.costs.specs.declared.Segment.{Segment}
+use Rattle.pruning.specs.Inequality.{oldEnough}
 use Rattle.inequality.specs.declared.Plan.{Plan}
-use Rattle.inequality.specs.Inequality.{oldEnough}
 use Rattle.inequality.specs.Held.{Room, Below, Rising}
 use Rattle.inequality.specs.Weights.{Parted, Written, segmentBy, costBy, later, added, lengthBy, raised, varianceBy, weightBy}
 use Rattle.inequality.proofs.WrittenLaws.{at-front, at-back, written-at, written-by}

@@ -9,8 +9,8 @@ use lib.Ieee.{Float, nan}
 use Rattle.readings.specs.Parts.{part}
 use Rattle.readings.specs.Channels.{channelOf}
 use Rattle.sums.specs.Sums.{meanOf, centredTo, squaresTo}
+use Rattle.pruning.specs.Inequality.{State, stateAfter, price}
 use Rattle.inequality.specs.declared.Plan.{Plan}
-use Rattle.inequality.specs.Inequality.{State, stateAfter, price}
 
 -- the areas, of lf floats and li indices, have room for what the plan puts there: runs of n + 1 places, two a channel, then F, then the parts
 pub record Room (q : Plan) (lf li : ℕ) : Type 0 where

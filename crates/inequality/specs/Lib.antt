@@ -1,4 +1,3 @@
-pub mod Inequality
 pub mod Pruned
 pub mod Held
 pub mod Weights

@@ -13,8 +13,8 @@ use Rattle.costs.specs.declared.CostFunction.{CostFunction}
 use Rattle.costs.specs.declared.Segment.{Segment}
 use Rattle.recurrence.specs.declared.Best.{Best}
 use Rattle.recurrence.specs.Minimum.{noneYet, betterOf}
+use Rattle.pruning.specs.Inequality.{oldEnough}
 use Rattle.inequality.specs.declared.Plan.{Plan}
-use Rattle.inequality.specs.Inequality.{oldEnough}
 
 -- the first of the candidates are old enough at t, and the others are not
 pub record Parted (m t : ℕ) (candidates : List ℕ) (old : ℕ) : Type 0 where

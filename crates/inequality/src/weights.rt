@@ -6,7 +6,7 @@ ghost use lib.Ieee.{nan};
 ghost use Rattle.floats.specs.Numbers.{_+ᶠ_, _-ᶠ_, whole};
 ghost use Rattle.readings.specs.Parts.{part};
 ghost use Rattle.costs.specs.declared.CostFunction.the-variants.{L2};
-ghost use Rattle.inequality.specs.Inequality.{oldEnough};
+ghost use Rattle.pruning.specs.Inequality.{oldEnough};
 ghost use Rattle.inequality.specs.Held.{Room, Below, Rising};
 ghost use Rattle.inequality.specs.Weights.{Parted, Written, costBy, added, weightBy};
 use crate::Plan;

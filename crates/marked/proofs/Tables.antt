@@ -22,7 +22,7 @@ use Rattle.noise.specs.Noise.{spreadOf, floorOf, noise, noiseSumTo}
 use Rattle.costs.specs.Costs.{segmentAbout, segmentOf, l2Cost, smallestNormal, normalCost, costOf, costTo}
 use Rattle.costs.specs.Penalties.{bicPenalty, penaltyOf}
 use Rattle.recurrence.specs.Minimum.{noneYet, betterOf, scanTo, keptTo}
-use Rattle.inequality.specs.Inequality as Inequality
+use Rattle.pruning.specs.Inequality as Inequality
 use Rattle.candidate.specs.Boxes.{spanAt, withSpan, overChannels, alongEach, gap2, narrowed, missed, nothing, restrict, isDominated}
 use Rattle.candidate.specs.Balls.{narrowestTo, displace, loseInside}
 use Rattle.candidate.specs.Cuts.{far2, inside, moved, cutEnds, cutSpan, cutBy, cutTo, cutLosing}

@@ -19,8 +19,8 @@ use Rattle.costs.specs.declared.Penalty.{Penalty}
 use Rattle.readings.specs.Shape.{firstLength}
 use Rattle.readings.specs.declared.Shaped.the-variants as Shaped
 use Rattle.recurrence.specs.Predecessors.{Sound}
-use Rattle.inequality.specs.Inequality.{price}
-use Rattle.inequality.proofs.SoundLaws.{predecessors-sound}
+use Rattle.pruning.specs.Inequality.{price}
+use Rattle.pruning.proofs.SoundLaws.{predecessors-sound}
 use Rattle.dominance.specs.Functional.{Task, functional}
 use Rattle.dominance.proofs.SoundLaws.{functional-sound}
 use Rattle.backtrack.specs.Cuts.{cutsOf}

@@ -10,7 +10,7 @@ use Rattle.noise.specs.Noise.{noiseSumTo}
 use Rattle.costs.specs.Penalties.{penaltyOf}
 use Rattle.costs.specs.declared.CostFunction.{CostFunction}
 use Rattle.costs.specs.declared.CostFunction.the-variants.{L2, Normal}
-use Rattle.inequality.specs.Inequality.{price, predecessors}
+use Rattle.pruning.specs.Inequality.{price, predecessors}
 use Rattle.dominance.specs.Functional.{Task, functional}
 use Rattle.backtrack.specs.Cuts.{cutsOf}
 use Rattle.costs.specs.declared.Penalty.{Penalty}

@@ -10,7 +10,7 @@ use Rattle.readings.specs.Parts.{part}
 use Rattle.readings.proofs.PartLaws.{part-length}
 use denote.Ref.{now}
 use mathlib.Core.Bool.{false}
-use Rattle.inequality.specs.Inequality.{oldEnough}
+use Rattle.pruning.specs.Inequality.{oldEnough}
 use Rattle.inequality.proofs.WeightLaws.{parted-here, parted-none, young-more}
 use native.Mathlib.Nat.{lt-irrefl, lt-of-lt-of-le}
 use mathlib.Core.Path.{subst}

@@ -1,4 +1,4 @@
--- Steps of searches by computation: a winner that is dropped with the others, an early tie, a NaN penalty; crate `marked` has whole searches. Assumes nothing.
+-- Steps of searches by computation: a winner that is dropped with the others, the first total, an early tie, a NaN penalty; crate `marked` has whole searches. Assumes nothing.
 use Prim.Native.Nat.{_^_}
 use mathlib.Core.Path.{_≡_, refl}
 use mathlib.Core.List.{List, [], _∷_}
@@ -12,7 +12,7 @@ use Rattle.sums.specs.Sums.{sumTo, meanOf, centred, centredTo, squaresTo}
 use Rattle.costs.specs.Costs.{segmentAbout, segmentOf, l2Cost, smallestNormal, normalCost, costOf, costTo}
 use Rattle.costs.specs.declared.CostFunction.the-variants.{L2, Normal}
 use Rattle.recurrence.specs.Minimum.{noneYet, betterOf, scanTo, keptTo}
-use Rattle.inequality.specs.Inequality.{oldEnough, partOf, bestAt, staysAt, stepOf, stateAfter, predecessors, price}
+use Rattle.pruning.specs.Inequality.{oldEnough, partOf, bestAt, staysAt, stepOf, stateAfter, predecessors, price}
 
 steps : List Float
 steps = whole 0 ∷ whole 0 ∷ whole 4 ∷ whole 4 ∷ []
@@ -28,6 +28,11 @@ winner-gone = refl
 next-is-infinite : getD (stateAfter (price Normal flat 4 1) (ratio 1 (10 ^ 300)) 2 4 2 .f) 3 nan ≡ +∞
 unfolding predecessors stateAfter stepOf bestAt staysAt partOf oldEnough price scanTo keptTo betterOf noneYet costTo costOf normalCost l2Cost segmentOf segmentAbout smallestNormal channelOf hasChannel part meanOf sumTo centred centredTo squaresTo ratio ln lnScaled lnOf series size add sub mul div lt le neg ofInt flat
 next-is-infinite = refl
+
+-- F(0) is minus the penalty: one piece has its cost alone, 16
+first-total : stateAfter (price L2 steps 4 1) (whole 1) 4 4 1 .f ≡ neg (whole 1) ∷ +0 ∷ +0 ∷ +0 ∷ whole 16 ∷ []
+unfolding predecessors stateAfter stepOf bestAt staysAt partOf oldEnough price scanTo keptTo betterOf noneYet costTo costOf normalCost l2Cost segmentOf segmentAbout smallestNormal channelOf hasChannel part meanOf sumTo centred centredTo squaresTo ratio ln lnScaled lnOf series size add sub mul div lt le neg ofInt steps
+first-total = refl
 
 -- 16 is what the cut at 2 would save: on a tie the earlier candidate wins, and there is no cut
 tie : predecessors (price L2 steps 4 1) (whole 16) 2 4 ≡ 0 ∷ 0 ∷ 0 ∷ 0 ∷ 0 ∷ []

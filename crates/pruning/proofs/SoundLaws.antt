@@ -10,7 +10,7 @@ use Rattle.recurrence.specs.Predecessors.{Placed, start, Sound}
 use Rattle.recurrence.proofs.All.{All, none, one, all-last, all-map}
 use Rattle.recurrence.proofs.MinimumLaws.{scan-is, kept-all}
 use Rattle.recurrence.proofs.PredecessorLaws.{Joined, old-placed, Filled, filled-after}
-use Rattle.inequality.specs.Inequality.{State, oldEnough, bestAt, stepOf, stateAfter, predecessors}
+use Rattle.pruning.specs.Inequality.{State, oldEnough, bestAt, stepOf, stateAfter, predecessors}
 
 -- every candidate is 0 or joined at m or later
 joined-after : (cost : ℕ → ℕ → Float) (penalty : Float) (m n d : ℕ) → All (Joined m) (stateAfter cost penalty m n d .candidates)
