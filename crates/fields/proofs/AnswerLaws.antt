@@ -27,9 +27,10 @@ use Rattle.pelt.specs.declared.Pelt.{Pelt}
 use Rattle.pelt.specs.Detected as Pelt
 use Rattle.pelt.specs.Detected.{withMinSegmentLen}
 use Rattle.fields.specs.Answer.{strictTests, strictCuts, cutsSaid, requestSaid, output, Answered}
-use Rattle.fields.specs.Form.{Request, requestOf}
-use Rattle.fields.specs.Lines.{text}
-use Rattle.fields.specs.Held.{asked, saidBy, HasCuts, Front}
+use Rattle.form.specs.Form.{Request, requestOf}
+use Rattle.lines.specs.Lines.{text}
+use Rattle.lines.specs.Written.{Front}
+use Rattle.fields.specs.Held.{asked, saidBy, HasCuts}
 use Rattle.fields.specs.declared.Printed.{Printed}
 
 -- ---- the cuts in the front of the area are those that are found
@@ -55,6 +56,12 @@ left-said {ts} {found} {cuts} (Searched.Cuts count) l = said-cuts ts found cuts 
 left-said {ts} {found} (Searched.Refused r) l = (tt, said-refused ts found (l .answer))
 
 -- ---- the room is enough
+pub has-cuts : {r : Searched} {count : ℕ} (cuts : List ℕ) → r ≡ Searched.Cuts count → HasCuts r cuts → count ≤ length cuts
+has-cuts cuts e h = subst (λ (x : Searched). HasCuts x cuts) e h
+
+pub cuts-room : (count : ℕ) (cuts : List ℕ) {size : ℕ} → count ≤ length cuts → length cuts ≤ 515 → 10841 ≤ size → 26 + 21 * length (take count cuts) ≤ size
+cuts-room count cuts h l m = omega (arith, length-take-le count cuts h, h, l, m)
+
 roomy : (n k cuts floats indices : ℕ) → n / 2 ≤ cuts → (2 * k + 2) * (n + 1) ≤ floats → 3 * (n + 1) ≤ indices → shortRoom n k cuts floats indices ≡ false
 unfolding shortRoom
 roomy n k cuts floats indices a b c = rw (le-ltb cuts (n / 2) a, le-ltb floats ((2 * k + 2) * (n + 1)) b, le-ltb indices (3 * (n + 1)) c) refl

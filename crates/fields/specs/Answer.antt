@@ -12,8 +12,8 @@ use Rattle.refusals.specs.declared.Refusal.the-variants as Refusal
 use Rattle.readings.specs.Shape.{firstLength}
 use Rattle.admission.specs.Tests.{searchTests}
 use Rattle.searches.specs.Search.{cutsFound}
-use Rattle.fields.specs.Form.{Request, requestOf}
-use Rattle.fields.specs.Lines.{text}
+use Rattle.form.specs.Form.{Request, requestOf}
+use Rattle.lines.specs.Lines.{text}
 use Rattle.fields.specs.declared.Printed.{Printed}
 
 -- the refusals of the strict search, with room for what it asks, so that 7 isn't met

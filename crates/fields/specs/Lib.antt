@@ -1,4 +1,2 @@
-pub mod Form
-pub mod Lines
 pub mod Answer
 pub mod Held

@@ -1,16 +1,10 @@
 // The program `cuts` as a function: the bytes of its input to the bytes of its output.
 //
 // The input is tagged fields that ask for a search; the output is the cuts, or the number of a
-// refusal. Every input has an answer, damaged ones too. `specs/Form` says which bytes ask for which
-// search, `specs/Lines` how an answer is written, and `specs/Answer` what `answer` promises: exactly
-// one output for each input.
-mod channels;
-mod cursor;
-mod lines;
-mod number;
-mod request;
+// refusal. Every input has an answer, damaged ones too. Crate `form` says which bytes ask for which
+// search, crate `lines` how an answer is written, and `specs/Answer` what `answer` promises: exactly
+// one output for each input. `specs/Held` is for the private functions.
 mod search;
-mod settings;
 
 ghost use Rattle.fields.specs.Answer.{Answered};
 

@@ -2,16 +2,17 @@
 ghost use Prim.Native.Nat.{_≤_};
 ghost use lib.ListN.{length};
 ghost use mathlib.Core.Option.{some};
-ghost use Rattle.fields.specs.Lines.{text};
+ghost use Rattle.lines.specs.Lines.{text};
+ghost use Rattle.lines.specs.Written.{Front};
 ghost use Rattle.fields.specs.Answer.{requestSaid, output};
-ghost use Rattle.fields.specs.Held.{asked, saidBy, HasCuts, Front};
-use crate::lines::print_cuts;
-use crate::lines::print_refusal;
-use crate::request::Request;
-use crate::request::read_request;
+ghost use Rattle.fields.specs.Held.{asked, saidBy, HasCuts};
 use costs::CostFunction;
 use costs::Penalty;
 use finding::Searched;
+use form::Request;
+use form::read_request;
+use lines::print_cuts;
+use lines::print_refusal;
 use pelt::Pelt;
 use refusals::Refusal;
 
@@ -21,7 +22,7 @@ fn print_searched(answer: Searched, cuts: &[usize], out: &mut [u8]) -> usize
     ensures { λ r. ⌜ Front (text (saidBy answer (now (cuts .entry)))) (now (out .entry)) (now (out .exit)) r ⌝ }
 {
     match answer {
-        Searched::Cuts(count) => print_cuts(cuts, count, out),
+        Searched::Cuts(count) => print_cuts(&cuts[..count], out),
         Searched::Refused(refusal) => print_refusal(refusal, out),
     }
 }
@@ -58,9 +59,10 @@ pub(crate) fn print_answer(input: &[u8], out: &mut [u8]) -> usize
     requires { ⌜ 10841 ≤ length (now out) ⌝ }
     ensures { λ r. ⌜ Front (output (now (input .entry))) (now (out .entry)) (now (out .exit)) r ⌝ }
 {
-    let mut run = [0.0; 1030];
-    let mut lengths = [0; 2746];
-    let request = read_request(input, &mut run, &mut lengths);
+    let parsed = read_request(input);
+    let run = parsed.run;
+    let lengths = parsed.lengths;
+    let request = parsed.request;
     match request {
         Request::Search {
             cost,

@@ -1,6 +1,6 @@
 use mathlib.Core.Path.{refl, sym, ap}
 use native.Mathlib.Omega.{arith}
-use Rattle.fields.specs.Lines.{text}
+use Rattle.lines.specs.Lines.{text}
 use Rattle.fields.proofs.AnswerLaws.{left-said, searched-said, front-as}
 use Rattle.fields.proofs.search.print_search.Statement.{statement}
 use Rattle.fields.proofs.search.print_search.Tie as tie
