@@ -74,7 +74,8 @@ fn put_lines(cuts: &[usize], out: &mut [u8], at: usize) -> usize
     next
 }
 
-// `cuts`, their number, and then they themselves.
+// `cuts`, their number, and then they themselves; nothing where the area may be too short. The room is
+// asked by a division, since a product could wrap. Cost: one turn for each cut.
 pub fn print_cuts(cuts: &[usize], out: &mut [u8]) -> usize
     ensures { λ r. ⌜ Front (shown (answered (now (cuts .entry))) (length (now (out .entry)))) (now (out .entry)) (now (out .exit)) r ⌝ }
 {
@@ -106,7 +107,7 @@ fn put_values(refusal: Refusal, out: &mut [u8], at: usize) -> usize
     }
 }
 
-// `refused`, the number and the values.
+// `refused`, the number and the values; nothing where the area may be too short.
 pub fn print_refusal(refusal: Refusal, out: &mut [u8]) -> usize
     ensures { λ r. ⌜ Front (shown (refused (stated refusal)) (length (now (out .entry)))) (now (out .entry)) (now (out .exit)) r ⌝ }
 {

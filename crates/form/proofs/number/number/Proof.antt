@@ -1,4 +1,4 @@
--- `fields::number::number` meets its contract: each turn appends a byte to the number, which eight bytes hold. Assumes nothing.
+-- `form::number::number` meets its contract: each turn appends a byte to the number, which eight bytes hold. Assumes nothing.
 use mathlib.Core.Path.{_≡_, refl}
 use Prim.Native.Nat.{_+_, _-_, _*_, _^_, _≤_, _<_}
 use native.Mathlib.Omega.{arith}
