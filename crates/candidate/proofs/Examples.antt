@@ -1,17 +1,16 @@
--- A few boxes and balls, by computation. Assumes nothing.
-use mathlib.Core.Bool.{true, false}
+-- A few boxes that balls narrow and cut, by computation. Assumes nothing.
 use mathlib.Core.Path.{_≡_, refl}
 use mathlib.Core.List.{[], _∷_}
-use lib.Ieee.{Float, nan, neg, add, sub, mul, lt, le, eq, ne, isNan, ofInt}
+use lib.Ieee.{Float, nan, neg, add, sub, mul, lt, le, eq, ne, ofInt}
 use Rattle.floats.specs.Numbers.{+0, +∞, -∞, whole}
 use Rattle.floats.specs.MaxMin.{max, min}
 use Rattle.elementary.specs.Root.{sqrt, nearRoot, wholeRoot, rootFrom}
 use Rattle.candidate.specs.declared.Candidate.{Candidate}
-use Rattle.candidate.specs.Boxes.{ballOf, overChannels, alongEach, spanAt, withSpan, gap2, narrowed, missed, nothing, restrict, isDominated}
-use Rattle.candidate.specs.Balls.{ahead, narrowestTo, loseInside}
+use Rattle.candidate.specs.Boxes.{ballOf, overChannels, alongEach, spanAt, withSpan, gap2, narrowed, missed, nothing, restrict}
 use Rattle.candidate.specs.Cuts.{far2, inside, moved, cutEnds, cutSpan, cutBy, cutTo, cutLosing}
 
-abbrev boxOf : Float → Float → Float → Float → Candidate
+-- a box by its ends along each channel
+abbrev pub boxOf : Float → Float → Float → Float → Candidate
 boxOf a b c d = record { lo = a ∷ c ∷ []; hi = b ∷ d ∷ [] }
 
 -- from 0 to 10 along the first channel, and from 0 to 8 along the second
@@ -43,32 +42,6 @@ restricted-away = refl
 pub restricted-by-nan : restrict 1 (ballOf (whole 3) +0 nan) wide ≡ boxOf (whole 3) (whole 3) +0 (whole 8)
 unfolding restrict overChannels alongEach spanAt withSpan gap2 narrowed missed nothing max min sqrt nearRoot wholeRoot rootFrom add sub mul lt eq ne ofInt
 restricted-by-nan = refl
-
--- a box that is gone along the second channel only, and one that is a point
-pub gone-beside : isDominated 1 (boxOf +0 (whole 1) (whole 2) (whole 1)) ≡ false
-unfolding isDominated spanAt lt ofInt
-gone-beside = refl
-
-pub gone-along-two : isDominated 2 (boxOf +0 (whole 1) (whole 2) (whole 1)) ≡ true
-unfolding isDominated spanAt lt ofInt
-gone-along-two = refl
-
-pub a-point-is-left : isDominated 1 (boxOf (whole 1) (whole 1) +0 +0) ≡ false
-unfolding isDominated spanAt lt ofInt
-a-point-is-left = refl
-
--- of the radii NaN, 3, 2, NaN, 2 the third is the narrowest; an empty ball is not kept, one that is no number is
-pub narrowest-third : narrowestTo (ballOf +0 +0 nan ∷ ballOf +0 +0 (whole 3) ∷ ballOf +0 +0 (whole 2) ∷ ballOf +0 +0 nan ∷ ballOf +0 +0 (whole 2) ∷ []) 4 ≡ 2
-unfolding narrowestTo ahead isNan lt ofInt
-narrowest-third = refl
-
-pub empty-not-kept : loseInside (ballOf +0 +0 +0) [] ≡ []
-unfolding loseInside le lt eq
-empty-not-kept = refl
-
-pub nan-kept : loseInside (ballOf +0 +0 nan) [] ≡ ballOf +0 +0 nan ∷ []
-unfolding loseInside le lt eq
-nan-kept = refl
 
 -- about 1 with a radius of 2, on one channel; about 0 and 4 with a radius of √41, which reaches 5 past the second channel's 4
 pub cut-one : cutLosing 1 (ballOf (whole 1) +0 (whole 4) ∷ []) wide ≡ boxOf (whole 3) (whole 10) +0 (whole 8)

@@ -1,10 +1,10 @@
--- The box of a candidate: what a ball leaves of it, and whether anything is left. Definitions only.
+-- The box of a candidate, and what a ball leaves of it. Definitions only.
 use Prim.Native.Nat.{ℕ}
-use mathlib.Core.Bool.{Bool, _&&_, _||_, cond}
+use mathlib.Core.Bool.{Bool, _||_, cond}
 use mathlib.Core.List.{List, [], _∷_}
 use lib.Dec.{eqb}
 use lib.ListN.{getD, set}
-use lib.Ieee.{Float, nan, eq}
+use lib.Ieee.{Float, nan}
 use Rattle.floats.specs.Numbers.{_+ᶠ_, _-ᶠ_, _*ᶠ_, _<ᶠ_, +0, +∞, -∞}
 use Rattle.floats.specs.MaxMin.{max}
 use Rattle.candidate.specs.declared.Candidate.{Candidate}
@@ -61,15 +61,3 @@ restrict channels b x =
     let total = overChannels channels (λ k. gap2 (spanAt x k) (at (b .centre) k)) in
     cond (missed (b .r2) total) (withSpan 0 nothing x)
     (alongEach channels (λ k s. narrowed s (at (b .centre) k) (b .r2 -ᶠ (total -ᶠ gap2 s (at (b .centre) k)))) x)
-
--- ---- `equals`
-
--- each number of the one equals the other's; a zero equals one of either sign, and NaN nothing
-unfoldable pub equals : Candidate → Candidate → Bool
-equals x y = eq (at (x .lo) 0) (at (y .lo) 0) && eq (at (x .hi) 0) (at (y .hi) 0) && eq (at (x .lo) 1) (at (y .lo) 1) && eq (at (x .hi) 1) (at (y .hi) 1)
-
--- ---- `is_dominated`
-
--- along one of the channels nothing is left
-unfoldable pub isDominated : ℕ → Candidate → Bool
-isDominated channels x = cond (eqb channels 1) (gone (spanAt x 0)) (gone (spanAt x 0) || gone (spanAt x 1))

@@ -1,6 +1,6 @@
 // The box, and the ball that narrows it.
 ghost use mathlib.Core.Path.{_≡_};
-ghost use Rattle.candidate.specs.Boxes.{gap2, nothing, spanAt, withSpan, ballOf, restrict, equals, isDominated};
+ghost use Rattle.candidate.specs.Boxes.{gap2, nothing, spanAt, withSpan, ballOf, restrict};
 use crate::Ball;
 use crate::Candidate;
 use floats::max;
@@ -98,26 +98,5 @@ impl Candidate {
         }
         self = self.restrict_two(ball.centre[0], ball.centre[1], ball.r2);
         self
-    }
-
-    // Whether each number equals the other's.
-    pub fn equals(self, other: Candidate) -> bool
-        ensures { λ r. ⌜ r ≡ equals self other ⌝ }
-    {
-        (self.lo[0] == other.lo[0])
-            & (self.hi[0] == other.hi[0])
-            & (self.lo[1] == other.lo[1])
-            & (self.hi[1] == other.hi[1])
-    }
-
-    // Whether nothing is left of the box.
-    pub fn is_dominated(self, channels: usize) -> bool
-        ensures { λ r. ⌜ r ≡ isDominated channels self ⌝ }
-    {
-        let first = self.hi[0] < self.lo[0];
-        if channels == 1 {
-            return first;
-        }
-        first | (self.hi[1] < self.lo[1])
     }
 }

@@ -1,19 +1,14 @@
-// One candidate of the functional search: the box where it can still win, and the balls where it
-// loses.
+// One candidate of the functional search: the box where it can still win, which balls narrow and cut.
 //
 // No public function asks anything of its caller. The number of channels is 1, and any other counts
-// as 2. Each result, and each area afterwards, is to the bit what the definition says that its
-// contract names: `specs/Boxes` for the box and the ball that narrows it, `specs/Balls` for the
-// losing balls and how they stand in an area, `specs/Cuts` for what they cut from the box. That in an
-// area this is what the definitions do to the list of balls which it stands for, is said in
-// `proofs/AreaLaws` and `proofs/RootLaws`, and in `proofs/StayLaws` that a box which `restrict` leaves
-// equal it leaves as it was. What concerns one side of the box stands in crate `spans`, and the runs of
-// the area in crate `losing`.
-mod balls;
+// as 2. Each result is to the bit what the definition says that its contract names: `specs/Boxes` for
+// the box and the ball that narrows it, `specs/Balls` for how the losing balls stand in an area,
+// `specs/Cuts` for what they cut from the box. That the balls of an area cut what the list of balls
+// cuts which it stands for, is said in `proofs/RootLaws`. What concerns one side of the box stands in
+// crate `spans`, the runs of the area in crate `losing`, and in crate `standing` what is asked of a
+// candidate that does not change its box.
 mod boxes;
 mod cuts;
-
-pub use balls::lose_inside;
 
 // The box: its two corners, a number of each for each channel.
 pub struct Candidate {

@@ -13,8 +13,9 @@ use lib.Ieee.{Float}
 use Rattle.readings.proofs.PartLaws.{frame-refl, frame-set}
 use Rattle.candidate.specs.declared.Candidate.{Candidate}
 use Rattle.candidate.specs.declared.Ball.{Ball}
-use Rattle.candidate.specs.Boxes.{restrict, equals}
-use Rattle.candidate.proofs.StayLaws.{restrict-stays}
+use Rattle.candidate.specs.Boxes.{restrict}
+use Rattle.standing.specs.Compared.{equals}
+use Rattle.standing.proofs.StayLaws.{restrict-stays}
 use Rattle.dominance.specs.declared.Facing.{Facing}
 use Rattle.dominance.specs.Functional.{outerBall}
 use Rattle.functional.specs.Held.{slotAt, boxAt, facingAt, ballsIn, isMarked, SameBox, narrowedAt, Remark, Remarked, Wide}

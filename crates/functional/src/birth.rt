@@ -14,6 +14,7 @@ use crate::narrowing::restrict_all;
 use crate::narrowing::store;
 use crate::slots::copy_balls;
 use candidate::Candidate;
+use standing::is_dominated;
 
 // A candidate with its box and its balls, which stand at the front of an area, into slot j.
 fn place(
@@ -50,7 +51,7 @@ fn bear(
     let channels = plan.channels;
     let range = plan.range;
     let cut = range.cut_losing(channels, born, 0, balls);
-    if cut.is_dominated(channels) {
+    if is_dominated(cut, channels) {
         return kept;
     }
     if kept < plan.slots {

@@ -6,8 +6,8 @@ ghost use Rattle.dominance.specs.Functional.{innerBall};
 ghost use Rattle.functional.specs.Held.{slotAt, facingAt, Balls, lostBy};
 use crate::slots::facing_at;
 use candidate::Ball;
-use candidate::lose_inside;
 use dominance::Facing;
+use standing::lose_inside;
 
 // The narrower ball; on one channel its second number is 0.
 fn inner_ball(x: Facing) -> Ball

@@ -19,6 +19,8 @@ use crate::slots::put_box;
 use candidate::Ball;
 use candidate::Candidate;
 use dominance::Facing;
+use standing::equals;
+use standing::is_dominated;
 
 fn outer_ball(x: Facing) -> Ball
     ensures { λ r. ⌜ r ≡ outerBall x ⌝ }
@@ -39,7 +41,7 @@ fn restrict_box(pool: &mut [f64], channels: usize, j: usize) -> bool
     let before = box_at(pool, j);
     let after = before.restrict(channels, ball);
     put_box(pool, j, after);
-    after.equals(before)
+    equals(after, before)
 }
 
 // Each box to where its candidate can still win; one that does not stay loses its mark. Cost: one turn
@@ -119,7 +121,7 @@ fn settle(
     let word = index_at(indices, 2 * w + j);
     let before = box_at(pool, j);
     let cut = cut_box(pool, channels, j, word, before);
-    if cut.is_dominated(channels) {
+    if is_dominated(cut, channels) {
         return kept;
     }
     let balls = word % 128;

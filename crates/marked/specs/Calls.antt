@@ -20,8 +20,9 @@ use Rattle.ewma.specs.Chart as Ewma
 use Rattle.ewma.specs.declared.Ewma.{Ewma}
 use Rattle.ewma.specs.declared.EwmaResult.{EwmaResult}
 use Rattle.candidate.specs.Boxes.{at}
-use Rattle.candidate.specs.Balls.{ballAt, loseInside}
+use Rattle.candidate.specs.Balls.{ballAt}
 use Rattle.candidate.specs.declared.Ball.{Ball}
+use Rattle.standing.specs.Losses.{loseInside}
 use Rattle.admission.specs.Tests.{searchTests, passed}
 use Rattle.searches.specs.Search.{cutsFound}
 use Rattle.searches.specs.Left.{foundSaid, cutsLeft, areaLeft}

@@ -15,11 +15,12 @@ use Rattle.floats.specs.Numbers.{_-ᶠ_, _<ᶠ_, _≤ᶠ_, +0}
 use Rattle.elementary.specs.Root.{sqrt}
 use Rattle.readings.specs.Parts.{tab, Frame}
 use Rattle.readings.proofs.PartLaws.{tab-same, tab-length, tab-at, tab-more, frame-refl, frame-set}
-use Rattle.candidate.specs.declared.Ball.{Ball}
-use Rattle.candidate.specs.Boxes.{at, ballOf}
-use Rattle.candidate.specs.Balls.{ballAt, narrowestTo, displace, loseInside, heldAt, secondNumber, meant, ballsAt, Rooted, hasRoom, areaWith, countWith, Lost}
 use Rattle.losing.specs.Losing.{radiusAt, narrowestIn, putBall, copyLast, displaced}
 use Rattle.losing.proofs.LosingLaws.{room-fits, narrowest-within}
+use Rattle.candidate.specs.declared.Ball.{Ball}
+use Rattle.candidate.specs.Boxes.{at, ballOf}
+use Rattle.candidate.specs.Balls.{ballAt, heldAt, meant, ballsAt, Rooted, hasRoom}
+use Rattle.standing.specs.Losses.{narrowestTo, displace, loseInside, secondNumber, areaWith, countWith, Lost}
 
 -- ---- tables
 tab-set : {A : Type 0} (g h : ℕ → A) (n i : ℕ) (v : A) → h i ≡ v → ((j : ℕ) → j < n → j ≢ i → h j ≡ g j) → tab h n ≡ set (tab g n) i v

@@ -1,8 +1,8 @@
 use mathlib.Core.Path.{refl}
 use borrow.Author.Needs.{needs}
-use Rattle.candidate.specs.Boxes.{equals}
-use Rattle.candidate.proofs.Candidate.equals.Statement.{statement}
-use Rattle.candidate.proofs.Candidate.equals.Tie as tie
+use Rattle.standing.specs.Compared.{equals}
+use Rattle.standing.proofs.compared.equals.Statement.{statement}
+use Rattle.standing.proofs.compared.equals.Tie as tie
 
 element-copy-out-result : tie.Need-element-copy-out-result
 element-copy-out-result c = search needs

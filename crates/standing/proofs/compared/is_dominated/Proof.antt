@@ -1,8 +1,9 @@
 use mathlib.Core.Path.{refl}
 use borrow.Author.Needs.{needs}
-use Rattle.candidate.proofs.Candidate.is_dominated.Statement.{statement}
-use Rattle.candidate.proofs.Candidate.is_dominated.Tie as tie
-use Rattle.candidate.specs.Boxes.{isDominated, spanAt}
+use Rattle.standing.proofs.compared.is_dominated.Statement.{statement}
+use Rattle.standing.proofs.compared.is_dominated.Tie as tie
+use Rattle.candidate.specs.Boxes.{spanAt}
+use Rattle.standing.specs.Compared.{isDominated}
 use borrow.Author.Tests.{eq-eqb, ne-eqb}
 
 element-copy-out-first : tie.Need-element-copy-out-first

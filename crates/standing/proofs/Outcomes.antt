@@ -1,10 +1,10 @@
--- The contract of `lose_inside` leaves one outcome: one area and one count. Those of `restrict`, `is_dominated` and `cut_losing` are equations of the result. Assumes nothing.
+-- The contract of `lose_inside` leaves one outcome: one area and one count. Those of `equals` and `is_dominated` are equations of the result. Assumes nothing.
 use Prim.Native.Nat.{ℕ}
 use mathlib.Core.Path.{_≡_, sym, _∙_}
 use mathlib.Core.List.{List}
 use lib.Ieee.{Float}
 use Rattle.candidate.specs.declared.Ball.{Ball}
-use Rattle.candidate.specs.Balls.{Lost}
+use Rattle.standing.specs.Losses.{Lost}
 
 pub lost-once : {channels : ℕ} {before y z : List Float} {place count : ℕ} {b : Ball} {r q : ℕ} → Lost channels before y place count b r → Lost channels before z place count b q
     → (y ≡ z) × (r ≡ q)

@@ -1,6 +1,6 @@
 // The balls in which a candidate loses.
-ghost use Rattle.candidate.specs.Balls.{Lost};
-use crate::Ball;
+ghost use Rattle.standing.specs.Losses.{Lost};
+use candidate::Ball;
 use losing::lose;
 
 // Notes that the candidate whose balls stand here, so many of them, loses inside one more, and says

@@ -1,0 +1,4 @@
+pub mod Outcomes
+pub mod Examples
+pub mod AreaLaws
+pub mod StayLaws
