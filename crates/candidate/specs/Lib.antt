@@ -1,3 +1,5 @@
 pub mod Boxes
 pub mod Balls
 pub mod Cuts
+pub mod Compared
+pub mod Losses

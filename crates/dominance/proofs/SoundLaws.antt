@@ -13,7 +13,7 @@ use Rattle.recurrence.specs.Predecessors.{Placed, start, later, Sound}
 use Rattle.recurrence.proofs.All.{All, none, one, all-at, all-last, all-map}
 use Rattle.recurrence.proofs.MinimumLaws.{scan-is}
 use Rattle.recurrence.proofs.PredecessorLaws.{placed-next, Filled, filled-after}
-use Rattle.standing.specs.Compared.{isDominated}
+use Rattle.candidate.specs.Compared.{isDominated}
 use Rattle.dominance.specs.Functional.{Task, Living, State, places, bestAt, livingAt, restricted, cutBack, lostTo, winnersTo, born, joinedBy, joinOf, livingAfter, stepOf, stateAfter, functional}
 
 -- ---- the places of the living candidates

@@ -19,8 +19,8 @@ use Rattle.candidate.specs.declared.Candidate.{Candidate}
 use Rattle.candidate.specs.declared.Ball.{Ball}
 use Rattle.candidate.specs.Boxes.{ballOf, restrict}
 use Rattle.candidate.specs.Cuts.{cutLosing}
-use Rattle.standing.specs.Compared.{isDominated}
-use Rattle.standing.specs.Losses.{loseInside}
+use Rattle.candidate.specs.Compared.{isDominated}
+use Rattle.candidate.specs.Losses.{loseInside}
 use Rattle.dominance.specs.declared.Facing.{Facing}
 
 -- what is searched: a run of one or two channels with n readings each

@@ -16,7 +16,7 @@ use Rattle.candidate.specs.declared.Ball.{Ball}
 use Rattle.candidate.specs.Balls.{heldAt, ballsAt, meant, hasRoom}
 use Rattle.candidate.specs.Cuts.{cutLosing, cutIn}
 use Rattle.candidate.proofs.RootLaws.{cut-in}
-use Rattle.standing.specs.Losses.{loseInside, Lost}
+use Rattle.candidate.specs.Losses.{loseInside, Lost}
 use Rattle.standing.proofs.AreaLaws.{lost-balls, lost-frame, lost-few, lost-rooted}
 use Rattle.functional.specs.Held.{slotAt, ballFloats, Balls, lostBy}
 use Rattle.functional.proofs.SlotLaws.{ball-in-pool}

@@ -18,8 +18,8 @@ use Rattle.candidate.specs.declared.Ball.{Ball}
 use Rattle.candidate.specs.Boxes.{ballOf, restrict}
 use Rattle.candidate.specs.Balls.{ballsAt, meant}
 use Rattle.candidate.specs.Cuts.{cutIn}
-use Rattle.standing.specs.Compared.{isDominated}
-use Rattle.standing.specs.Losses.{loseInside}
+use Rattle.candidate.specs.Compared.{isDominated}
+use Rattle.candidate.specs.Losses.{loseInside}
 use Rattle.functional.specs.declared.Plan.{Plan}
 use Rattle.dominance.specs.declared.Facing.{Facing}
 use Rattle.dominance.specs.Functional.{Living, besides, facing, outerBall, innerBall, livingAt, lostTo, restricted, cutBack, winnersTo, rangeBox, born, joinedBy, joinOf}

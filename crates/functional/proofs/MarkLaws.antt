@@ -14,7 +14,7 @@ use Rattle.readings.proofs.PartLaws.{frame-refl, frame-set}
 use Rattle.candidate.specs.declared.Candidate.{Candidate}
 use Rattle.candidate.specs.declared.Ball.{Ball}
 use Rattle.candidate.specs.Boxes.{restrict}
-use Rattle.standing.specs.Compared.{equals}
+use Rattle.candidate.specs.Compared.{equals}
 use Rattle.standing.proofs.StayLaws.{restrict-stays}
 use Rattle.dominance.specs.declared.Facing.{Facing}
 use Rattle.dominance.specs.Functional.{outerBall}

@@ -16,7 +16,7 @@ use Rattle.candidate.specs.declared.Candidate.{Candidate}
 use Rattle.candidate.specs.declared.Ball.{Ball}
 use Rattle.candidate.specs.Balls.{heldAt, ballsAt}
 use Rattle.candidate.specs.Cuts.{cutLosing, cutIn}
-use Rattle.standing.specs.Compared.{isDominated}
+use Rattle.candidate.specs.Compared.{isDominated}
 use Rattle.dominance.specs.Functional.{Living, livingAt, cutBack, joinedBy}
 use Rattle.functional.specs.Held.{slotAt, boxAt, ballFloats, putBox, Put, Balled, Balls, ballsIn, isMarked, livedAt, lived, Kept, BallsOf, Sane, SameBox, putIndices, Stored, Settled, survivorsTo, Narrowed, Wide}
 use Rattle.functional.proofs.SlotLaws.{slot-long, slot-before, slot-after, box-put, balls-beside-box, ball-in-pool}

@@ -16,8 +16,8 @@ use Rattle.candidate.specs.declared.Ball.{Ball}
 use Rattle.candidate.specs.Boxes.{at, ballOf, restrict}
 use Rattle.candidate.specs.Balls.{heldAt, ballsAt, meant, Rooted}
 use Rattle.candidate.specs.Cuts.{cutLosing}
-use Rattle.standing.specs.Compared.{isDominated}
-use Rattle.standing.specs.Losses.{loseInside}
+use Rattle.candidate.specs.Compared.{isDominated}
+use Rattle.candidate.specs.Losses.{loseInside}
 use Rattle.functional.specs.declared.Plan.{Plan}
 use Rattle.dominance.specs.declared.Facing.{Facing}
 use Rattle.dominance.specs.Functional.{Task, Living, State, price, outerBall, innerBall, livingAt, cutBack, rangeBox, joinedBy, joinOf, stateAfter, functional}

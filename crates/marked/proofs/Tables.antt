@@ -25,8 +25,8 @@ use Rattle.recurrence.specs.Minimum.{noneYet, betterOf, scanTo, keptTo}
 use Rattle.pruning.specs.Inequality as Inequality
 use Rattle.candidate.specs.Boxes.{spanAt, withSpan, overChannels, alongEach, gap2, narrowed, missed, nothing, restrict}
 use Rattle.candidate.specs.Cuts.{far2, inside, moved, cutEnds, cutSpan, cutBy, cutTo, cutLosing}
-use Rattle.standing.specs.Compared.{isDominated}
-use Rattle.standing.specs.Losses.{narrowestTo, displace, loseInside}
+use Rattle.candidate.specs.Compared.{isDominated}
+use Rattle.candidate.specs.Losses.{narrowestTo, displace, loseInside}
 use Rattle.dominance.specs.Functional.{price, places, bestAt, centreAlong, besides, slackOf, facing, lostTo, restricted, cutBack, winnersTo, rangeAlong, rangeBox, born, joinedBy, joinOf, livingAfter, stepOf, stateAfter, functional}
 use Rattle.backtrack.specs.Cuts.{predecessorOf, backFrom, cutsOf}
 use Rattle.admission.specs.Tests.{badPenalty, shortRoom, roomTests, searchTests, passed}

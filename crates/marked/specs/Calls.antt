@@ -22,7 +22,7 @@ use Rattle.ewma.specs.declared.EwmaResult.{EwmaResult}
 use Rattle.candidate.specs.Boxes.{at}
 use Rattle.candidate.specs.Balls.{ballAt}
 use Rattle.candidate.specs.declared.Ball.{Ball}
-use Rattle.standing.specs.Losses.{loseInside}
+use Rattle.candidate.specs.Losses.{loseInside}
 use Rattle.admission.specs.Tests.{searchTests, passed}
 use Rattle.searches.specs.Search.{cutsFound}
 use Rattle.searches.specs.Left.{foundSaid, cutsLeft, areaLeft}

@@ -20,7 +20,7 @@ use Rattle.losing.proofs.LosingLaws.{room-fits, narrowest-within}
 use Rattle.candidate.specs.declared.Ball.{Ball}
 use Rattle.candidate.specs.Boxes.{at, ballOf}
 use Rattle.candidate.specs.Balls.{ballAt, heldAt, meant, ballsAt, Rooted, hasRoom}
-use Rattle.standing.specs.Losses.{narrowestTo, displace, loseInside, secondNumber, areaWith, countWith, Lost}
+use Rattle.candidate.specs.Losses.{narrowestTo, displace, loseInside, secondNumber, areaWith, countWith, Lost}
 
 -- ---- tables
 tab-set : {A : Type 0} (g h : ℕ → A) (n i : ℕ) (v : A) → h i ≡ v → ((j : ℕ) → j < n → j ≢ i → h j ≡ g j) → tab h n ≡ set (tab g n) i v

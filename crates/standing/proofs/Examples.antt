@@ -6,8 +6,8 @@ use lib.Ieee.{nan, lt, le, eq, isNan, ofInt}
 use Rattle.floats.specs.Numbers.{+0, whole}
 use Rattle.candidate.specs.Boxes.{ballOf, spanAt}
 use Rattle.candidate.proofs.Examples.{boxOf}
-use Rattle.standing.specs.Compared.{isDominated}
-use Rattle.standing.specs.Losses.{ahead, narrowestTo, loseInside}
+use Rattle.candidate.specs.Compared.{isDominated}
+use Rattle.candidate.specs.Losses.{ahead, narrowestTo, loseInside}
 
 -- a box that is gone along the second channel only, and one that is a point
 pub gone-beside : isDominated 1 (boxOf +0 (whole 1) (whole 2) (whole 1)) ≡ false

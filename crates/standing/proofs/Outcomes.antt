@@ -4,7 +4,7 @@ use mathlib.Core.Path.{_≡_, sym, _∙_}
 use mathlib.Core.List.{List}
 use lib.Ieee.{Float}
 use Rattle.candidate.specs.declared.Ball.{Ball}
-use Rattle.standing.specs.Losses.{Lost}
+use Rattle.candidate.specs.Losses.{Lost}
 
 pub lost-once : {channels : ℕ} {before y z : List Float} {place count : ℕ} {b : Ball} {r q : ℕ} → Lost channels before y place count b r → Lost channels before z place count b q
     → (y ≡ z) × (r ≡ q)

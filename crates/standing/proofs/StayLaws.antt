@@ -13,7 +13,7 @@ use Rattle.floats.proofs.Order.Laws.{lt-not-le}
 use Rattle.candidate.specs.declared.Candidate.{Candidate}
 use Rattle.candidate.specs.declared.Ball.{Ball}
 use Rattle.candidate.specs.Boxes.{Span, at, spanAt, withSpan, overChannels, alongEach, gap2, narrowed, missed, nothing, restrict}
-use Rattle.standing.specs.Compared.{equals}
+use Rattle.candidate.specs.Compared.{equals}
 
 -- ---- numbers
 eq-infinite : (s : Bool) (x : Float) → eq (inf s) x ≡ true → inf s ≡ x

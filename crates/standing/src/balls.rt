@@ -1,5 +1,5 @@
 // The balls in which a candidate loses.
-ghost use Rattle.standing.specs.Losses.{Lost};
+ghost use Rattle.candidate.specs.Losses.{Lost};
 use candidate::Ball;
 use losing::lose;
 

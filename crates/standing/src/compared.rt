@@ -1,6 +1,6 @@
 // What is asked of a box.
 ghost use mathlib.Core.Path.{_≡_};
-ghost use Rattle.standing.specs.Compared.{equals, isDominated};
+ghost use Rattle.candidate.specs.Compared.{equals, isDominated};
 use candidate::Candidate;
 
 // Whether each number equals the other's.

@@ -3,7 +3,7 @@ use Prim.Native.Nat.{_-_}
 use native.Mathlib.Omega.{arith}
 use borrow.Author.Needs.{needs}
 use denote.Ref.{now}
-use Rattle.standing.specs.Compared.{isDominated}
+use Rattle.candidate.specs.Compared.{isDominated}
 use Rattle.dominance.specs.Functional.{cutBack}
 use Rattle.functional.specs.Held.{ballsIn, livedAt, BallsOf}
 use Rattle.functional.proofs.NarrowLaws.{settle-cut, settle-stored, settled-gone, settled-stays, balls-few}

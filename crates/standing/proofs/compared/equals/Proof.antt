@@ -1,6 +1,6 @@
 use mathlib.Core.Path.{refl}
 use borrow.Author.Needs.{needs}
-use Rattle.standing.specs.Compared.{equals}
+use Rattle.candidate.specs.Compared.{equals}
 use Rattle.standing.proofs.compared.equals.Statement.{statement}
 use Rattle.standing.proofs.compared.equals.Tie as tie
 

@@ -3,7 +3,7 @@ use borrow.Author.Needs.{needs}
 use Rattle.standing.proofs.compared.is_dominated.Statement.{statement}
 use Rattle.standing.proofs.compared.is_dominated.Tie as tie
 use Rattle.candidate.specs.Boxes.{spanAt}
-use Rattle.standing.specs.Compared.{isDominated}
+use Rattle.candidate.specs.Compared.{isDominated}
 use borrow.Author.Tests.{eq-eqb, ne-eqb}
 
 element-copy-out-first : tie.Need-element-copy-out-first
