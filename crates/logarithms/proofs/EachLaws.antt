@@ -14,12 +14,15 @@ use Rattle.elementary.specs.Logarithm.{ln}
 use Rattle.logarithms.specs.Stages.{plain, Plain, Each, Kept}
 
 -- the last place and those before it
-upTo : {P : ℕ → Type 0} (n : ℕ) → ((i : ℕ) → i < n → P i) → P n → (i : ℕ) → i < n + 1 → P i
+pub upTo : {P : ℕ → Type 0} (n : ℕ) → ((i : ℕ) → i < n → P i) → P n → (i : ℕ) → i < n + 1 → P i
 upTo {P} n f p i h = ⊎-elim (λ e. subst P (sym e) p) (λ l. f i l) (eq-or-lt-of-le (le-of-suc-le-suc (rw add-one at h)))
 
 -- stores elsewhere
-other : (xs : List Float) (i j : ℕ) (v : Float) → (j ≡ i → ⊥) → getD (set xs i v) j nan ≡ getD xs j nan
+pub other : (xs : List Float) (i j : ℕ) (v : Float) → (j ≡ i → ⊥) → getD (set xs i v) j nan ≡ getD xs j nan
 other xs i j v h = getD-set-other xs i j v nan h
+
+pub before : {i n : ℕ} → i ≡ n → i < n → ⊥
+before e h = omega (arith, e, h)
 
 -- ---- plain values
 pub plain-none : {xs : List Float} → Plain 0 xs
@@ -35,12 +38,9 @@ each-none = record { each = λ i h. absurd (not-suc-le-zero h) }
 pub each-more : {R : Float → Float → Type 0} {xs ys : List Float} {n : ℕ} {v : Float} → Each R n xs ys → n < length ys → R (getD xs n nan) v → Each R (n + 1) xs (set ys n v)
 each-more {R} {xs} {ys} {n} {v} f l r = record {
   each = upTo {P = λ i. R (getD xs i nan) (getD (set ys n v) i nan)} n
-      (λ i h. subst (R (getD xs i nan)) (sym (other ys n i v (λ e. apart e h))) (f .each i h))
+      (λ i h. subst (R (getD xs i nan)) (sym (other ys n i v (λ e. before e h))) (f .each i h))
       (subst (R (getD xs n nan)) (sym (getD-set-same ys n v nan l)) r);
 }
-  where
-    apart : {i : ℕ} → i ≡ n → i < n → ⊥
-    apart e h = omega (arith, e, h)
 
 -- ---- what is still as it was
 pub kept-all : {xs : List Float} → Kept 0 xs xs

@@ -1,2 +1,3 @@
 pub mod PlainLaws
 pub mod EachLaws
+pub mod GroupLaws

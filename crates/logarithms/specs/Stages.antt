@@ -56,3 +56,12 @@ pub record Ready (values ratios sums : List Float) : Type 0 where
   pub summed : Each (Begun 0) (length values) ratios sums
   pub ratios-reach : length values ≤ length ratios
   pub sums-reach : length values ≤ length sums
+
+-- the first n values of a list are those of a function
+pub record Filled (f : ℕ → Float) (n : ℕ) (xs : List Float) : Type 0 where
+  pub each : (i : ℕ) → i < n → getD xs i nan ≡ f i
+
+-- the first n values of a group stand from a place on, and what is before it is the same
+pub record Put (place n : ℕ) (group before after : List Float) : Type 0 where
+  pub stored : (i : ℕ) → i < n → getD after (place + i) nan ≡ getD group i nan
+  pub same : (i : ℕ) → i < place → getD after i nan ≡ getD before i nan

@@ -1,27 +1,26 @@
-// The logarithms of any number of values, 64 at a time.
+// The logarithms of any number of values, 32 at a time.
 ghost use mathlib.Core.Path.{_≡_};
 ghost use mathlib.Core.List.{map};
 ghost use Prim.Native.Nat.{_≤_, _<_, _+_};
 ghost use lib.ListN.{length};
 ghost use Rattle.elementary.specs.Logarithm.{ln};
 ghost use Rattle.logarithms.specs.Stages.{Plain};
+use crate::groups::sum_up;
 use crate::plain::all_plain;
 use crate::stages::join;
-use crate::stages::lower_halves;
 use crate::stages::quotients;
-use crate::stages::upper_halves;
 
-// The logarithms of plain values. Cost: four loops of one turn for each value.
+// The logarithms of plain values. Cost: two loops of one turn for each value, and one for
+// every 16.
 fn ln_plain(values: &mut [f64])
-    requires { ⌜ (length (now values) ≤ 64) × Plain (length (now values)) (now values) ⌝ }
+    requires { ⌜ (length (now values) ≤ 32) × Plain (length (now values)) (now values) ⌝ }
     ensures { λ r. ⌜ now (values .exit) ≡ map ln (now (values .entry)) ⌝ }
 {
     let count = values.len();
-    let mut ratios = [0.0; 64];
-    let mut sums = [0.0; 64];
+    let mut ratios = [0.0; 32];
+    let mut sums = [0.0; 32];
     quotients(values, &mut ratios, count);
-    upper_halves(&ratios, &mut sums, count);
-    lower_halves(&ratios, &mut sums, count);
+    sum_up(&ratios, &mut sums, count);
     join(values, &ratios, &sums);
 }
 
@@ -36,9 +35,9 @@ fn ln_in_turn(values: &mut [f64])
     }
 }
 
-// The logarithms of at most 64 values.
+// The logarithms of at most 32 values.
 fn ln_block(values: &mut [f64])
-    requires { ⌜ length (now values) ≤ 64 ⌝ }
+    requires { ⌜ length (now values) ≤ 32 ⌝ }
     ensures { λ r. ⌜ now (values .exit) ≡ map ln (now (values .entry)) ⌝ }
 {
     if all_plain(values) {
@@ -50,15 +49,15 @@ fn ln_block(values: &mut [f64])
 // Where a block that begins at a place ends.
 fn block_end(start: usize, size: usize) -> usize
     requires { ⌜ start < size ⌝ }
-    ensures { λ r. ⌜ (start < r) × (r ≤ size) × (r ≤ start + 64) ⌝ }
+    ensures { λ r. ⌜ (start < r) × (r ≤ size) × (r ≤ start + 32) ⌝ }
 {
-    if size - start < 64 {
+    if size - start < 32 {
         return size;
     }
-    start + 64
+    start + 32
 }
 
-// Each value becomes its natural logarithm. Cost: one turn for each block of 64 values.
+// Each value becomes its natural logarithm. Cost: one turn for each block of 32 values.
 pub fn ln_each(values: &mut [f64])
     ensures { λ r. ⌜ now (values .exit) ≡ map ln (now (values .entry)) ⌝ }
 {

@@ -4,6 +4,7 @@
 // bit. Blocks of values that are all normal go through short loops without a branch, of which the
 // compiler takes several turns in one; in any other block each value is given to `elementary::ln`.
 mod block;
+mod groups;
 mod plain;
 mod stages;
 

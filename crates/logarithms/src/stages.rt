@@ -21,56 +21,6 @@ pub(crate) fn quotients(values: &[f64], ratios: &mut [f64], count: usize)
     }
 }
 
-// The first five turns of the sum for z = s * s.
-fn upper_half(s: f64) -> f64
-    ensures { λ r. ⌜ Begun 5 s r ⌝ }
-{
-    let z = s * s;
-    let p = 1.0 / 21.0;
-    let p = p * z + 1.0 / 19.0;
-    let p = p * z + 1.0 / 17.0;
-    let p = p * z + 1.0 / 15.0;
-    let p = p * z + 1.0 / 13.0;
-    p * z + 1.0 / 11.0
-}
-
-// Cost: one turn for each of the first count ratios.
-pub(crate) fn upper_halves(ratios: &[f64], sums: &mut [f64], count: usize)
-    requires { ⌜ (count ≤ length (now ratios)) × (count ≤ length (now sums)) ⌝ }
-    ensures { λ r. ⌜ Each (Begun 5) count (now (ratios .entry)) (now (sums .exit)) ⌝ }
-{
-    let mut i = 0;
-    while i < count {
-        sums[i] = upper_half(ratios[i]);
-        i += 1;
-    }
-}
-
-// The other five turns.
-fn lower_half(s: f64, half: f64) -> f64
-    requires { ⌜ Begun 5 s half ⌝ }
-    ensures { λ r. ⌜ Begun 0 s r ⌝ }
-{
-    let z = s * s;
-    let p = half * z + 1.0 / 9.0;
-    let p = p * z + 1.0 / 7.0;
-    let p = p * z + 1.0 / 5.0;
-    let p = p * z + 1.0 / 3.0;
-    p * z + 1.0
-}
-
-// Cost: one turn for each of the first count ratios.
-pub(crate) fn lower_halves(ratios: &[f64], sums: &mut [f64], count: usize)
-    requires { ⌜ (count ≤ length (now ratios)) × (count ≤ length (now sums)) × Each (Begun 5) count (now ratios) (now sums) ⌝ }
-    ensures { λ r. ⌜ Each (Begun 0) count (now (ratios .entry)) (now (sums .exit)) ⌝ }
-{
-    let mut i = 0;
-    while i < count {
-        sums[i] = lower_half(ratios[i], sums[i]);
-        i += 1;
-    }
-}
-
 // The logarithm of a plain value.
 fn joined(value: f64, s: f64, sum: f64) -> f64
     requires { ⌜ (plain value ≡ true) × Split value s × Begun 0 s sum ⌝ }
