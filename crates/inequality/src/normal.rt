@@ -100,19 +100,19 @@ fn add_block(
     put(floats, indices, plan, first, t, values);
 }
 
-// How many candidates the block has that begins at a place: 64, or what is left.
+// How many candidates the block has that begins at a place: 32, or what is left.
 fn block_size(first: usize, old: usize) -> usize
     requires { ⌜ first < old ⌝ }
-    ensures { λ r. ⌜ (0 < r) × (r ≤ 64) × (first + r ≤ old) ⌝ }
+    ensures { λ r. ⌜ (0 < r) × (r ≤ 32) × (first + r ≤ old) ⌝ }
 {
-    if old - first < 64 {
+    if old - first < 32 {
         return old - first;
     }
-    64
+    32
 }
 
 // The Normal costs of the channel whose runs stand at a place, onto the parts. Cost: one turn for every
-// 64 candidates.
+// 32 candidates.
 pub(crate) fn add_normal(
     floats: &mut [f64],
     indices: &[usize],
@@ -124,7 +124,7 @@ pub(crate) fn add_normal(
     requires { ⌜ Room plan (length (now floats)) (length (now indices)) × (place + 2 * (plan .n + 1) ≤ plan .f) × (t ≤ plan .n) × (old ≤ t) × Below t (part (now indices) (plan .c) old) ⌝ }
     ensures { λ r. ⌜ Written (now (floats .entry)) (now (floats .exit)) (plan .p) (added Normal (now (floats .entry)) (now (indices .entry)) (plan .n + 1) place (plan .p) (plan .c) t 1) old ⌝ }
 {
-    let mut values = [0.0; 64];
+    let mut values = [0.0; 32];
     let mut first = 0;
     while first < old {
         let size = block_size(first, old);

@@ -15,7 +15,7 @@ use Rattle.inequality.proofs.WeightLaws.{block-more}
 use Rattle.inequality.proofs.WeightLaws.{below-fewer, front-length}
 
 abbrev Inv-loop : tie.InvT-loop
-Inv-loop floats₀ indices plan place old t values₀ first₀ floats values first = (first ≤ old) × Written floats₀ floats (plan .p) (added Normal floats₀ indices (plan .n + 1) place (plan .p) (plan .c) t 1) first × (length values ≡ 64)
+Inv-loop floats₀ indices plan place old t values₀ first₀ floats values first = (first ≤ old) × Written floats₀ floats (plan .p) (added Normal floats₀ indices (plan .n + 1) place (plan .p) (plan .c) t 1) first × (length values ≡ 32)
 
 abbrev μ-loop : tie.MeasureT-loop
 μ-loop floats₀ indices plan place old t values₀ first₀ floats values first = old - first
