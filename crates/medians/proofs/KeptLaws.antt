@@ -8,8 +8,8 @@ use native.Mathlib.Numerals.{add-one}
 use native.Mathlib.Omega.{arith}
 use borrow.Author.Tests.{not-true}
 use lib.Dec.{T}
-use lib.ListN.{length, getD, take}
-use lib.Seq.{take-suc}
+use lib.ListN.{length, getD, take, length-take}
+use lib.Seq.{take-suc, getD-take}
 use lib.Ieee.{Float, nan, lt}
 use lib.Ieee.Bits.{is-true}
 use Rattle.floats.specs.Ahead.{ahead}
@@ -183,3 +183,10 @@ module _ (xs : List Float) (k : ℕ) (lo hi : Float) (few : below lo xs ≤ k) (
   ranked-kept m =
       by-counts xs k v (lt-of-lt-of-le many (count-length (λ (y : Float). lt y hi) xs)) few-ahead many-not-behind m
       (counts-each (λ q. sorted-count q (kept test xs)) (kept-each test magnitude xs (λ i l e. m .each i l)) .each place (omega (arith, inside-kept, sorted-length (kept test xs))))
+
+-- ---- the front of a list
+pub front-length : (n : ℕ) (xs : List Float) → n ≤ length xs → length (take n xs) ≡ n
+front-length n xs h = simp length-take (omega arith)
+
+pub front-each : (p : Float → Bool) (n : ℕ) (xs : List Float) → n ≤ length xs → Each p xs → Each p (take n xs)
+front-each p n xs h e = record { each = λ i l. let k : i < n = rw (front-length n xs h) at l in ap p (getD-take n xs i nan k) ∙ e .each i (omega (arith, h, k)) }

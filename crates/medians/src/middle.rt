@@ -14,6 +14,7 @@ use crate::narrow::widest;
 use crate::rank::gather;
 use crate::rank::guessed;
 use crate::rank::ranked;
+use crate::rank::sampled;
 use areas::clear_floats;
 use floats::from_bits;
 
@@ -44,10 +45,10 @@ fn one_by_one(run: &[f64], first: usize, second: usize) -> Middles
 
 // The values at two places within a bracket that has few values: they are found among those alone.
 fn among_few(run: &[f64], b: Bracket, first: usize, second: usize) -> Middles
-    requires { ⌜ Around (now run) first b × (first ≤ second) × (second < b .upto) × (b .upto - b .under ≤ 256) × Each magnitude (now run) ⌝ }
+    requires { ⌜ Around (now run) first b × (first ≤ second) × (second < b .upto) × (b .upto - b .under ≤ 64) × Each magnitude (now run) ⌝ }
     ensures { λ r. ⌜ (r .low ≡ rankedOf (now (run .entry)) first) × (r .high ≡ rankedOf (now (run .entry)) second) ⌝ }
 {
-    let mut part = [0.0; 256];
+    let mut part = [0.0; 64];
     let size = gather(run, from_bits(b.low), from_bits(b.high), &mut part);
     let low = ranked(&part[..size], first - b.under);
     if first == second {
@@ -59,10 +60,10 @@ fn among_few(run: &[f64], b: Bracket, first: usize, second: usize) -> Middles
 
 // The values at two places within a bracket. One that has many values has one pattern.
 fn within_bracket(run: &[f64], b: Bracket, first: usize, second: usize) -> Middles
-    requires { ⌜ Around (now run) first b × (wide b 1 256 ≡ false) × (first ≤ second) × (second < b .upto) × Each magnitude (now run) ⌝ }
+    requires { ⌜ Around (now run) first b × (wide b 1 64 ≡ false) × (first ≤ second) × (second < b .upto) × Each magnitude (now run) ⌝ }
     ensures { λ r. ⌜ (r .low ≡ rankedOf (now (run .entry)) first) × (r .high ≡ rankedOf (now (run .entry)) second) ⌝ }
 {
-    if b.upto - b.under <= 256 {
+    if b.upto - b.under <= 64 {
         return among_few(run, b, first, second);
     }
     let value = from_bits(b.low);
@@ -72,18 +73,18 @@ fn within_bracket(run: &[f64], b: Bracket, first: usize, second: usize) -> Middl
     }
 }
 
-// A bracket around the value at a place that has one pattern or at most 256 values. Where more values lie
-// within 2^46 patterns, most are likely to be equal. Cost: some 15 passes over the run, some 20 where many
-// values are equal, and at most 66.
+// A bracket around the value at a place that has one pattern or at most 64 values. Where more values lie
+// within 2^46 patterns, most are likely to be equal. Cost: some 8 passes over the run, some 20 where many
+// values are equal, and at most 76.
 fn near_middle(run: &[f64], place: usize, start: Bracket) -> Bracket
-    requires { ⌜ Around (now run) place start ⌝ }
-    ensures { λ r. ⌜ Around (now (run .entry)) place r × (wide r 1 256 ≡ false) ⌝ }
+    requires { ⌜ Around (now run) place start × (256 ≤ length (now run)) × Each magnitude (now run) ⌝ }
+    ensures { λ r. ⌜ Around (now (run .entry)) place r × (wide r 1 64 ≡ false) ⌝ }
 {
-    let b = narrowed(run, place, start, 0x4000_0000_0000, 256);
-    if b.upto - b.under <= 256 {
+    let b = narrowed(run, place, sampled(run, place, start), 0x4000_0000_0000, 64);
+    if b.upto - b.under <= 64 {
         return b;
     }
-    narrowed(run, place, guessed(run, place, b), 1, 256)
+    narrowed(run, place, guessed(run, place, b), 1, 64)
 }
 
 // The two middle values of a run. Cost: that of a bracket around them, and at most twice that of finding a
@@ -136,7 +137,7 @@ fn fits(places: usize, readings: usize) -> bool
 }
 
 // The median of the differences, worked out in a run with a place for each, which is +0 afterwards.
-// Cost: some 15 passes over the run, and at most 63 for each of the two middle values.
+// Cost: some 9 passes over the run, and at most 63 for each of the two middle values.
 pub fn median_difference(channel: &[f64], run: &mut [f64]) -> f64
     ensures { λ r. ⌜ Found (now (channel .entry)) (now (run .entry)) (now (run .exit)) r ⌝ }
 {

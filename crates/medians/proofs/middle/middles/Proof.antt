@@ -33,7 +33,10 @@ widest-requires : tie.Need-widest-requires
 widest-requires c κs = tt
 
 near-middle-requires : tie.Need-near-middle-requires
-near-middle-requires c κs = let w = c .widest .ensures in around-first _ _ _ (c .before .before .before .before .before .pre .1) (w .0) (w .1) (w .2) (w .3 ∙ c .before .before .count-below .ensures) (rw (w .3) (omega (arith, c .before .if2 .left)))
+near-middle-requires c κs =
+    let w = c .widest .ensures in
+    let p = c .before .before .before .before .before .pre in
+    (around-first _ _ _ (c .before .before .before .before .before .pre .1) (w .0) (w .1) (w .2) (w .3 ∙ c .before .before .count-below .ensures) (rw (w .3) (omega (arith, c .before .if2 .left))), omega (arith, c .before .before .before .if1 .left), p .1)
 
 one-by-one-requires-3 : tie.Need-one-by-one-requires-3
 one-by-one-requires-3 c κs = let p = c .before .before .before .before .before .before .before .before .pre in (omega (arith, p .0), omega (arith, p .0), p .1)

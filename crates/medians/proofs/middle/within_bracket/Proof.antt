@@ -22,7 +22,7 @@ returns-2 : tie.Need-returns-2
 returns-2 c =
     let p = c .before .before .before .before .pre in
     let b = c .before .before .before .before .args .b in
-    let o = one-pattern b 256 (p .1) (c .before .if1 .left) in
+    let o = one-pattern b 64 (p .1) (c .before .if1 .left) in
     (c .from-bits .ensures ∙ around-found _ (p .4) _ b (p .0) (le-refl _) (p .0 .many) o, c .from-bits .ensures ∙ around-found _ (p .4) _ b (p .0) (p .2) (p .3) o)
 
 pub within-bracket-spec : {M : Type 1} → statement M
