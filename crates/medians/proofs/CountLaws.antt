@@ -36,9 +36,8 @@ pub counted-all : (p : Float → Bool) (xs : List Float) (i n : ℕ) → n ≡ c
 counted-all p xs i n e h = e ∙ ap (count p) (ap (λ (k : ℕ). take k xs) h ∙ take-length xs)
 
 -- a value that passes was not among those before it
-pub count-room : (p : Float → Bool) (xs : List Float) (i n : ℕ) → n ≡ count p (take i xs) → i < length xs → p (getD xs i nan) ≡ true → n < count p xs
-count-room p xs i n e h t =
-    omega (arith, counted-in p xs i n e h t, sym (count-append p (take (i + 1) xs) (drop (i + 1) xs)) ∙ ap (count p) (take-append-drop (i + 1) xs))
+pub count-front : (p : Float → Bool) (xs : List Float) (i : ℕ) → count p (take i xs) ≤ count p xs
+count-front p xs i = omega (arith, sym (count-append p (take i xs) (drop i xs)) ∙ ap (count p) (take-append-drop i xs))
 
 -- values from place m on that fail leave at most m
 pub count-most : (p : Float → Bool) (xs : List Float) (m : ℕ) → ((i : ℕ) → m ≤ i → i < length xs → p (getD xs i nan) ≡ false) → count p xs ≤ m

@@ -48,7 +48,7 @@ fn among_few(run: &[f64], b: Bracket, first: usize, second: usize) -> Middles
     requires { ⌜ Around (now run) first b × (first ≤ second) × (second < b .upto) × (b .upto - b .under ≤ 64) × Each magnitude (now run) ⌝ }
     ensures { λ r. ⌜ (r .low ≡ rankedOf (now (run .entry)) first) × (r .high ≡ rankedOf (now (run .entry)) second) ⌝ }
 {
-    let mut part = [0.0; 64];
+    let mut part = [0.0; 65];
     let size = gather(run, from_bits(b.low), from_bits(b.high), &mut part);
     let low = ranked(&part[..size], first - b.under);
     if first == second {

@@ -2,16 +2,16 @@
 use mathlib.Core.Path.{_≡_, refl, sym, ap, _∙_}
 use Prim.Native.Nat.{ℕ, _≤_, _<_, _-_}
 use native.Mathlib.Omega.{arith}
-use native.Mathlib.Nat.{le-antisymm}
+use native.Mathlib.Nat.{le-antisymm, le-refl}
 use lib.ListN.{length, getD, take, length-set}
 use lib.Ieee.{nan}
 use borrow.Author.Needs.{needs}
 use denote.Ref.{now}
-use lib.Seq.{take-length}
+use lib.Seq.{take-length, take-set-le}
 use mathlib.Core.Bool.{true}
 use Rattle.medians.proofs.MedianLaws.{front-more}
 use Rattle.medians.proofs.KeptLaws.{kept-length, gathered-in, gathered-out}
-use Rattle.medians.proofs.CountLaws.{counted-in, counted-out, counted-all, count-room}
+use Rattle.medians.proofs.CountLaws.{counted-in, counted-out, counted-all, count-front}
 use Rattle.medians.specs.Ranks.{count, between, kept}
 use Rattle.medians.proofs.rank.gather.Statement.{statement}
 use Rattle.medians.proofs.rank.gather.Tie as tie
@@ -22,14 +22,16 @@ Inv-loop run low high part₀ size₀ i₀ part size i = (i ≤ length run) × (
 abbrev μ-loop : tie.MeasureT-loop
 μ-loop run low high part₀ size₀ i₀ part size i = length run - i
 
--- the value that is copied passes the test, and so there is room for it
+-- the value that is kept passes the test
 passes : (c : tie.Then1 Inv-loop μ-loop) → between (c .before .before .before .before .before .before .before .args .low) (c .before .before .before .before .before .before .before .args .high) (getD (now (c .before .before .before .before .before .before .before .args .run)) (c .before .before .before .before .loop .i) nan) ≡ true
 passes c = sym (c .before .is-between .ensures) ∙ c .if1 .taken
 
-room : (c : tie.Then1 Inv-loop μ-loop) → c .before .before .before .before .loop .size < length (c .before .before .before .before .loop .part)
+-- there is room for one more than are kept
+room : (c : tie.After-shared-slice-known2 Inv-loop μ-loop) → c .before .before .loop .size < length (c .before .before .loop .part)
 room c =
-    let l = c .before .before .before .before .loop in
-    omega (arith, l .inv .1, c .before .before .before .before .before .before .before .pre, count-room (between (c .before .before .before .before .before .before .before .args .low) (c .before .before .before .before .before .before .before .args .high)) (now (c .before .before .before .before .before .before .before .args .run)) (l .i) (l .size) (l .inv .2) (c .before .before .before .loop-test .taken) (passes c))
+    let l = c .before .before .loop in
+    let start = c .before .before .before .before .before in
+    omega (arith, l .inv .1, l .inv .2, start .pre, count-front (between (start .args .low) (start .args .high)) (now (start .args .run)) (l .i))
 
 loop-holds : tie.Need-loop-holds Inv-loop μ-loop
 unfolding count kept
@@ -48,13 +50,13 @@ is-between-requires : tie.Need-is-between-requires Inv-loop μ-loop
 is-between-requires c κs = search needs
 
 mul-part : tie.Need-mul-part Inv-loop μ-loop
-mul-part c = omega (arith, room c, c .before .before .before .before .loop .inv .1)
+mul-part c = omega (arith, room c, c .before .before .loop .inv .1)
 
 slice-write-part : tie.Need-slice-write-part Inv-loop μ-loop
 slice-write-part c = room c
 
 add-size : tie.Need-add-size Inv-loop μ-loop
-add-size c = omega (arith, room c, c .before .before .before .before .loop .inv .1)
+add-size c = omega (arith, room (c .before .before), c .before .before .before .before .loop .inv .1)
 
 loop-less : tie.Need-loop-less Inv-loop μ-loop
 loop-less c = search needs
@@ -66,7 +68,7 @@ loop-again c =
       omega arith,
       simp length-set (l .inv .1),
       counted-in (between (c .before .before .before .before .before .before .before .args .low) (c .before .before .before .before .before .before .before .args .high)) run (l .i) (l .size) (l .inv .2) (c .before .before .before .loop-test .taken) (passes c),
-      front-more (l .part) (l .size) (getD run (l .i) nan) _ (room c) (l .inv .3) ∙ sym (gathered-in (between (c .before .before .before .before .before .before .before .args .low) (c .before .before .before .before .before .before .before .args .high)) run (l .i) (c .before .before .before .loop-test .taken) (passes c)),
+      front-more (l .part) (l .size) (getD run (l .i) nan) _ (room (c .before .before)) (l .inv .3) ∙ sym (gathered-in (between (c .before .before .before .before .before .before .before .args .low) (c .before .before .before .before .before .before .before .args .high)) run (l .i) (c .before .before .before .loop-test .taken) (passes c)),
     )
 
 loop-less-2 : tie.Need-loop-less-2 Inv-loop μ-loop
@@ -78,9 +80,9 @@ loop-again-2 c =
     let run = now (c .before .before .before .before .before .before .before .args .run) in
     let fails = sym (c .before .is-between .ensures) ∙ c .if1 .left in (
       omega arith,
-      l .inv .1,
+      simp length-set (l .inv .1),
       counted-out (between (c .before .before .before .before .before .before .before .args .low) (c .before .before .before .before .before .before .before .args .high)) run (l .i) (l .size) (l .inv .2) (c .before .before .before .loop-test .taken) fails,
-      l .inv .3 ∙ sym (gathered-out (between (c .before .before .before .before .before .before .before .args .low) (c .before .before .before .before .before .before .before .args .high)) run (l .i) (c .before .before .before .loop-test .taken) fails),
+      take-set-le (l .size) (l .part) (l .size) (getD run (l .i) nan) (le-refl (l .size)) ∙ l .inv .3 ∙ sym (gathered-out (between (c .before .before .before .before .before .before .before .args .low) (c .before .before .before .before .before .before .before .args .high)) run (l .i) (c .before .before .before .loop-test .taken) fails),
     )
 
 same-length : tie.Need-same-length Inv-loop μ-loop
@@ -104,10 +106,10 @@ gather-spec =
     loop-holds
     mul-value
     shared-slice-read-value
-    add-i
-    is-between-requires
     mul-part
     slice-write-part
+    add-i
+    is-between-requires
     add-size
     loop-less
     loop-again
