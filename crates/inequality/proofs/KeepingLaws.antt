@@ -16,7 +16,7 @@ use Rattle.readings.proofs.PartLaws.{part-suc, part-front, part-above, push, fr
 use Rattle.sums.proofs.ChannelLaws.{mul-more, mul-room}
 use Rattle.inequality.specs.declared.Plan.{Plan}
 use Rattle.inequality.specs.Held.{Room}
-use Rattle.inequality.specs.Staying.{stays, Staying, stayCount, keptBy, Retained, RetainedRuns, Joined}
+use Rattle.inequality.specs.Staying.{stays, Staying, Leaving, stayCount, keptBy, Retained, RetainedRuns, Joined}
 use Rattle.inequality.proofs.WrittenLaws.{at-front, at-back}
 
 -- ---- the runs of the sums, and F's with them, end before the parts
@@ -85,6 +85,37 @@ module _ {A : Type 0} (bound : Float) (xs : List Float) (p : ℕ) (d : A) where
   retained-from values b count i s h l =
       record { many = count-front bound xs p i s; few = omega arith; front = kept-front values b i s (omega arith); rest = λ j g k. refl; frame = frame-refl values b count }
 
+  -- the value at i goes, and nothing is stored
+  retained-past : (values ys : List A) (b count i kept : ℕ) → Retained bound xs p d values ys b count i kept → stays bound xs p i ≡ false → Retained bound xs p d values ys b count (i + 1) kept
+  retained-past values ys b count i kept r e =
+      let few = r .few in
+      record {
+        many = r .many ∙ sym (count-no bound xs p i e);
+        few = omega arith;
+        front = r .front ∙ sym (kept-no values b i e);
+        rest = λ j l g. r .rest j (omega arith) g;
+        frame = r .frame;
+      }
+
+  past : (k : ℕ) (values : List A) (b count i : ℕ) → Staying bound xs p i → i + k ≤ count → b + count ≤ length values → Leaving bound xs p i (i + k) → Retained bound xs p d values values b count (i + k) i
+  past zero values b count i s h l g = subst (λ (j : ℕ). Retained bound xs p d values values b count j i) (none i) (retained-from values b count i s (omega arith) l)
+    where
+      none : (i : ℕ) → i ≡ i + 0
+      none i = omega arith
+  past (suc k) values b count i s h l g =
+      subst (λ (j : ℕ). Retained bound xs p d values values b count j i) (more i k)
+      (retained-past values values b count (i + k) i (past k values b count i s (omega arith) l (record { leave = λ j a z. g .leave j a (omega arith) })) (g .leave (i + k) (omega arith) (omega arith)))
+    where
+      more : (i k : ℕ) → i + k + 1 ≡ i + suc k
+      more i k = omega arith
+
+  -- the first i stay and those after them up to j go
+  pub retained-leaving : (values : List A) (b count i j : ℕ) → Staying bound xs p i → Leaving bound xs p i j → i ≤ j → j ≤ count → b + count ≤ length values → Retained bound xs p d values values b count j i
+  retained-leaving values b count i j s g o h l =
+      let e : i + (j - i) ≡ j = omega arith in
+      subst (λ (k : ℕ). Retained bound xs p d values values b count k i) e
+      (past (j - i) values b count i s (omega (arith, e)) l (record { leave = λ k a z. g .leave k a (omega (arith, e)) }))
+
   -- the value at i has been stored behind those that stay
   pub retained-yes : (values ys : List A) (b count i kept k : ℕ) (v : A) → Retained bound xs p d values ys b count i kept → b + count ≤ length ys → i < count
       → stays bound xs p i ≡ true → v ≡ getD ys (b + i) d → k ≡ b + kept
@@ -141,6 +172,18 @@ retained-since bound xs ys p d us vs b count kept e r =
       rest = r .rest;
       frame = r .frame;
     }
+
+pub leaving-none : (bound : Float) (xs : List Float) (p from : ℕ) → Leaving bound xs p from from
+leaving-none bound xs p from = record { leave = λ i a z. absurd (none i a z) }
+  where
+    none : (i : ℕ) → from ≤ i → i < from → ⊥
+    none i a z = omega (arith, a, z)
+
+pub leaving-more : {bound : Float} {xs : List Float} {p from j : ℕ} → Leaving bound xs p from j → (getD xs (p + j) nan <ᶠ bound) ≡ false → Leaving bound xs p from (j + 1)
+leaving-more {bound} {xs} {p} {from} {j} g h = record { leave = λ i a l. ⊎-elim (λ q. ap (λ (n : ℕ). getD xs (p + n) nan <ᶠ bound) q ∙ h) (λ l. g .leave i a l) (eq-or-lt-of-le (le-of-suc-le-suc (rw add-one at l))) }
+
+pub leaving-kept : {bound : Float} {xs ys : List Float} {p from j : ℕ} → Leaving bound xs p from j → ((i : ℕ) → i < j → getD ys (p + i) nan ≡ getD xs (p + i) nan) → Leaving bound ys p from j
+leaving-kept {bound} {xs} {ys} {p} g e = record { leave = λ i a h. rw (e i h) (g .leave i a h) }
 
 pub staying-kept : {bound : Float} {xs ys : List Float} {p j : ℕ} → Staying bound xs p j → ((i : ℕ) → i < j → getD ys (p + i) nan ≡ getD xs (p + i) nan) → Staying bound ys p j
 staying-kept {bound} {xs} {ys} {p} s e = record { stay = λ i h. rw (e i h) (s .stay i h) }

@@ -2,7 +2,7 @@
 use Prim.Native.Nat.{ℕ, zero, suc, _+_, _*_, _≤_, _<_}
 use mathlib.Core.Path.{_≡_}
 use mathlib.Core.Logic.{_≢_}
-use mathlib.Core.Bool.{Bool, true, cond}
+use mathlib.Core.Bool.{Bool, true, false, cond}
 use mathlib.Core.List.{List, [], _∷_, _++_}
 use lib.ListN.{getD}
 use lib.Ieee.{Float, nan}
@@ -17,6 +17,10 @@ stays bound xs p j = getD xs (p + j) nan <ᶠ bound
 -- all of the first j are
 pub record Staying (bound : Float) (xs : List Float) (p j : ℕ) : Type 0 where
   pub stay : (i : ℕ) → i < j → stays bound xs p i ≡ true
+
+-- none from a place up to another is
+pub record Leaving (bound : Float) (xs : List Float) (p from to : ℕ) : Type 0 where
+  pub leave : (i : ℕ) → from ≤ i → i < to → stays bound xs p i ≡ false
 
 -- how many of the first j are
 unfoldable pub stayCount : Float → List Float → ℕ → ℕ → ℕ

@@ -6,7 +6,7 @@ ghost use lib.ListN.{length, getD};
 ghost use lib.Ieee.{nan};
 ghost use Rattle.floats.specs.Numbers.{_<ᶠ_};
 ghost use Rattle.inequality.specs.Held.{Room};
-ghost use Rattle.inequality.specs.Staying.{Staying, Retained, RetainedRuns, Joined};
+ghost use Rattle.inequality.specs.Staying.{Staying, Leaving, Retained, RetainedRuns, Joined};
 use crate::Plan;
 use crate::weights::float_at;
 use crate::weights::index_at;
@@ -63,21 +63,39 @@ fn staying(floats: &[f64], p: usize, count: usize, bound: f64) -> usize
     j
 }
 
-// What is held of those that stay, to the front of a run, in order; the first `from` stay. A value is
-// stored before it is known whether it stays, which saves a branch. Cost: one turn for each after them.
+// Where the next one stays from a place on, or the end. After a change those before it go together, and
+// need not be looked at run by run. Cost: one turn for each that goes.
+fn leaving(floats: &[f64], p: usize, from: usize, count: usize, bound: f64) -> usize
+    requires { ⌜ (p + count ≤ length (now floats)) × (from ≤ count) ⌝ }
+    ensures { λ r. ⌜ (from ≤ r) × (r ≤ count) × Leaving bound (now (floats .entry)) p from r ⌝ }
+{
+    let mut j = from;
+    while j < count {
+        if part_below(floats, p + j, bound) {
+            return j;
+        }
+        j += 1;
+    }
+    j
+}
+
+// What is held of those that stay, to the front of a run, in order; the first `from` stay, and those up
+// to `next` go. A value is stored before it is known whether it stays, which saves a branch. Cost: one
+// turn for each from `next` on.
 fn retain_run(
     floats: &mut [f64],
     base: usize,
     p: usize,
     from: usize,
+    next: usize,
     count: usize,
     bound: f64,
 ) -> usize
-    requires { ⌜ (base + count ≤ p) × (p + count ≤ length (now floats)) × (from ≤ count) × Staying bound (now floats) p from ⌝ }
+    requires { ⌜ (base + count ≤ p) × (p + count ≤ length (now floats)) × (from ≤ next) × (next ≤ count) × Staying bound (now floats) p from × Leaving bound (now floats) p from next ⌝ }
     ensures { λ r. ⌜ Retained bound (now (floats .entry)) p nan (now (floats .entry)) (now (floats .exit)) base count count r ⌝ }
 {
     let mut kept = from;
-    let mut i = from;
+    let mut i = next;
     while i < count {
         let value = float_at(floats, base + i);
         let stays = part_below(floats, p + i, bound);
@@ -96,16 +114,17 @@ fn retain_indices(
     indices: &mut [usize],
     plan: Plan,
     from: usize,
+    next: usize,
     count: usize,
     bound: f64,
 ) -> usize
-    requires { ⌜ (plan .p + count ≤ length (now floats)) × (plan .c + count ≤ length (now indices)) × (from ≤ count) × Staying bound (now floats) (plan .p) from ⌝ }
+    requires { ⌜ (plan .p + count ≤ length (now floats)) × (plan .c + count ≤ length (now indices)) × (from ≤ next) × (next ≤ count) × Staying bound (now floats) (plan .p) from × Leaving bound (now floats) (plan .p) from next ⌝ }
     ensures { λ r. ⌜ Retained bound (now (floats .entry)) (plan .p) 0 (now (indices .entry)) (now (indices .exit)) (plan .c) count count r ⌝ }
 {
     let c = plan.c;
     let p = plan.p;
     let mut kept = from;
-    let mut i = from;
+    let mut i = next;
     while i < count {
         let tau = index_at(indices, c + i);
         let stays = part_below(floats, p + i, bound);
@@ -119,8 +138,8 @@ fn retain_indices(
 }
 
 // Every run of sums, and F. Cost: one turn for each run.
-fn retain_runs(floats: &mut [f64], plan: Plan, from: usize, count: usize, bound: f64)
-    requires { ⌜ Room plan (length (now floats)) (plan .c + (plan .n + 1)) × (from ≤ count) × (count ≤ plan .n) × Staying bound (now floats) (plan .p) from ⌝ }
+fn retain_runs(floats: &mut [f64], plan: Plan, from: usize, next: usize, count: usize, bound: f64)
+    requires { ⌜ Room plan (length (now floats)) (plan .c + (plan .n + 1)) × (from ≤ next) × (next ≤ count) × (count ≤ plan .n) × Staying bound (now floats) (plan .p) from × Leaving bound (now floats) (plan .p) from next ⌝ }
     ensures { λ r. ⌜ RetainedRuns bound plan (now (floats .entry)) (now (floats .exit)) count (2 * plan .channels + 1) ⌝ }
 {
     let p = plan.p;
@@ -128,7 +147,7 @@ fn retain_runs(floats: &mut [f64], plan: Plan, from: usize, count: usize, bound:
     let mut run = 0;
     let mut base = 0;
     while run < runs {
-        retain_run(floats, base, p, from, count, bound);
+        retain_run(floats, base, p, from, next, count, bound);
         base += plan.n + 1;
         run += 1;
     }
@@ -148,8 +167,9 @@ pub(crate) fn retain(
 {
     let from = staying(floats, plan.p, count, bound);
     if from < count {
-        retain_runs(floats, plan, from, count, bound);
-        return retain_indices(floats, indices, plan, from, count, bound);
+        let next = leaving(floats, plan.p, from, count, bound);
+        retain_runs(floats, plan, from, next, count, bound);
+        return retain_indices(floats, indices, plan, from, next, count, bound);
     }
     count
 }

@@ -6,16 +6,16 @@ use borrow.Author.Needs.{needs}
 use Rattle.inequality.proofs.keeping.retain_indices.Statement.{statement}
 use Rattle.inequality.proofs.keeping.retain_indices.Tie as tie
 use Rattle.inequality.specs.Staying.{Retained}
-use Rattle.inequality.proofs.KeepingLaws.{retained-from, retained-yes, retained-no, retained-all}
+use Rattle.inequality.proofs.KeepingLaws.{retained-leaving, retained-yes, retained-no, retained-all}
 
 abbrev Inv-loop : tie.InvT-loop
-Inv-loop floats indices₀ from count bound c p kept₀ i₀ indices kept i = (from ≤ i) × (i ≤ count) × Retained bound floats p 0 indices₀ indices c count i kept
+Inv-loop floats indices₀ from next count bound c p kept₀ i₀ indices kept i = (next ≤ i) × (i ≤ count) × Retained bound floats p 0 indices₀ indices c count i kept
 
 abbrev μ-loop : tie.MeasureT-loop
-μ-loop floats indices₀ from count bound c p kept₀ i₀ indices kept i = count - i
+μ-loop floats indices₀ from next count bound c p kept₀ i₀ indices kept i = count - i
 
 loop-holds : tie.Need-loop-holds Inv-loop μ-loop
-loop-holds c = (omega arith, c .before .before .pre .2, retained-from _ _ _ 0 _ _ _ _ (c .before .before .pre .3) (c .before .before .pre .2) (c .before .before .pre .1))
+loop-holds c = let p = c .before .before .pre in (omega arith, p .3, retained-leaving _ _ _ 0 _ _ _ _ _ (p .4) (p .5) (p .2) (p .3) (p .1))
 
 add-index-at : tie.Need-add-index-at Inv-loop μ-loop
 add-index-at c = search needs

@@ -11,16 +11,16 @@ use denote.Ref.{now}
 use Rattle.floats.specs.Numbers.{_<ᶠ_}
 use Rattle.inequality.specs.Staying.{Retained}
 use Rattle.inequality.proofs.WrittenLaws.{at-back}
-use Rattle.inequality.proofs.KeepingLaws.{retained-from, retained-yes, retained-no, retained-all}
+use Rattle.inequality.proofs.KeepingLaws.{retained-leaving, retained-yes, retained-no, retained-all}
 
 abbrev Inv-loop : tie.InvT-loop
-Inv-loop floats₀ base p from count bound kept₀ i₀ floats kept i = (from ≤ i) × (i ≤ count) × Retained bound floats₀ p nan floats₀ floats base count i kept
+Inv-loop floats₀ base p from next count bound kept₀ i₀ floats kept i = (next ≤ i) × (i ≤ count) × Retained bound floats₀ p nan floats₀ floats base count i kept
 
 abbrev μ-loop : tie.MeasureT-loop
-μ-loop floats₀ base p from count bound kept₀ i₀ floats kept i = count - i
+μ-loop floats₀ base p from next count bound kept₀ i₀ floats kept i = count - i
 
 loop-holds : tie.Need-loop-holds Inv-loop μ-loop
-loop-holds c = (omega arith, c .before .pre .2, retained-from _ _ _ nan _ _ _ _ (c .before .pre .3) (c .before .pre .2) (omega arith))
+loop-holds c = let p = c .before .pre in (omega arith, p .3, retained-leaving _ _ _ nan _ _ _ _ _ (p .4) (p .5) (p .2) (p .3) (omega arith))
 
 add-float-at : tie.Need-add-float-at Inv-loop μ-loop
 add-float-at c = search needs

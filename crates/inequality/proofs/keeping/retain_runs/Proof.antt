@@ -12,14 +12,14 @@ use denote.Ref.{now}
 use Rattle.sums.proofs.ChannelLaws.{mul-more}
 use Rattle.inequality.specs.Staying.{RetainedRuns}
 use Rattle.inequality.proofs.WrittenLaws.{at-back}
-use Rattle.inequality.proofs.KeepingLaws.{runs-none, runs-more, staying-kept}
+use Rattle.inequality.proofs.KeepingLaws.{runs-none, runs-more, staying-kept, leaving-kept}
 use Rattle.inequality.proofs.KeepingLaws.{run-room}
 
 abbrev Inv-loop : tie.InvT-loop
-Inv-loop floats₀ plan from count bound p runs run₀ base₀ floats run base = (run ≤ runs) × (base ≡ run * (plan .n + 1)) × RetainedRuns bound plan floats₀ floats count run
+Inv-loop floats₀ plan from next count bound p runs run₀ base₀ floats run base = (run ≤ runs) × (base ≡ run * (plan .n + 1)) × RetainedRuns bound plan floats₀ floats count run
 
 abbrev μ-loop : tie.MeasureT-loop
-μ-loop floats₀ plan from count bound p runs run₀ base₀ floats run base = runs - run
+μ-loop floats₀ plan from next count bound p runs run₀ base₀ floats run base = runs - run
 
 mul-runs : tie.Need-mul-runs Inv-loop μ-loop
 mul-runs c = search needs
@@ -31,7 +31,12 @@ loop-holds : tie.Need-loop-holds Inv-loop μ-loop
 loop-holds c = (omega arith, sym (zero-mul _), runs-none _ _ _ _)
 
 retain-run-requires : tie.Need-retain-run-requires Inv-loop μ-loop
-retain-run-requires c κs = let a = c .before .before .before .before .before .args in let l = c .before .before .loop in let h = run-room (a .plan) _ _ (l .run) (c .before .before .before .before .before .pre .0) (c .before .loop-test .taken) in (omega arith, omega (arith, l .inv .2 .frame .long), c .before .before .before .before .before .pre .1, staying-kept (c .before .before .before .before .before .pre .3) (λ i k. at-back (a .plan .p + i) nan (l .inv .2 .frame) (omega arith)))
+retain-run-requires c κs =
+    let a = c .before .before .before .before .before .args in
+    let p = c .before .before .before .before .before .pre in
+    let l = c .before .before .loop in
+    let h = run-room (a .plan) _ _ (l .run) (p .0) (c .before .loop-test .taken) in
+    (omega arith, omega (arith, l .inv .2 .frame .long), p .1, p .2, staying-kept (p .4) (λ i k. at-back (a .plan .p + i) nan (l .inv .2 .frame) (omega arith)), leaving-kept (p .5) (λ i k. at-back (a .plan .p + i) nan (l .inv .2 .frame) (omega arith)))
 
 add-base : tie.Need-add-base Inv-loop μ-loop
 add-base c = search needs
@@ -46,7 +51,7 @@ loop-less : tie.Need-loop-less Inv-loop μ-loop
 loop-less c = search needs
 
 loop-again : tie.Need-loop-again Inv-loop μ-loop
-loop-again c = let a = c .before .before .before .before .before .before .before .before .before .args in let l = c .before .before .before .before .before .before .loop in let h = run-room (a .plan) _ _ (l .run) (c .before .before .before .before .before .before .before .before .before .pre .0) (c .before .before .before .before .before .loop-test .taken) in (omega arith, omega (arith, mul-more (l .run) (a .plan .n + 1)), runs-more (a .bound) (a .plan) _ (l .floats) (c .before .before .before .retain-run .last .0) (a .count) (l .run) (l .base) _ (l .inv .2) (c .before .before .before .retain-run .ensures) (l .inv .1) (c .before .before .before .before .before .before .before .before .before .pre .2) (omega arith))
+loop-again c = let a = c .before .before .before .before .before .before .before .before .before .args in let l = c .before .before .before .before .before .before .loop in let h = run-room (a .plan) _ _ (l .run) (c .before .before .before .before .before .before .before .before .before .pre .0) (c .before .before .before .before .before .loop-test .taken) in (omega arith, omega (arith, mul-more (l .run) (a .plan .n + 1)), runs-more (a .bound) (a .plan) _ (l .floats) (c .before .before .before .retain-run .last .0) (a .count) (l .run) (l .base) _ (l .inv .2) (c .before .before .before .retain-run .ensures) (l .inv .1) (c .before .before .before .before .before .before .before .before .before .pre .3) (omega arith))
 
 same-length : tie.Need-same-length Inv-loop μ-loop
 same-length c = search needs
