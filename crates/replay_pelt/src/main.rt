@@ -35,12 +35,13 @@ use lent::FLOATS;
 use lent::INDICES;
 use lent::POOL;
 use lent::READINGS;
+use replay::Progress;
 use state::State;
 use state::next_other;
 
 // Replays the records of standard input up to the last: a call, or what stands between calls. The count
 // ends the loop, since nothing says that the input does.
-fn replay_all() -> State {
+fn replay_all() -> Progress {
     let mut run = [0.0; READINGS];
     let mut lengths = [0; CHANNELS];
     let mut cuts = [0; CUTS];
@@ -51,14 +52,15 @@ fn replay_all() -> State {
     let mut turn = 0u64;
     while turn < u64::MAX {
         turn += 1;
-        if state.ended {
-            return state;
+        let progress = state.progress;
+        if !progress.more {
+            return progress;
         }
         let call = next_call();
         let room = room_of(call, state.readings, state.channels);
         if room.fits {
-            state = state.after(replay_search(
-                state.progress,
+            state.progress = replay_search(
+                progress,
                 call,
                 &run[..room.readings],
                 &lengths[..room.channels],
@@ -66,16 +68,14 @@ fn replay_all() -> State {
                 &mut floats[..room.floats],
                 &mut indices[..room.indices],
                 &mut pool[..room.pool],
-            ));
+            );
         } else {
             state = next_other(state, call.letter, &mut run, &mut lengths);
         }
     }
-    state
+    state.progress
 }
 
 fn main() {
-    let state = replay_all();
-    let progress = state.progress;
-    progress.report();
+    replay_all().report();
 }

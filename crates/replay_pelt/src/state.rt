@@ -15,8 +15,6 @@ pub(crate) struct State {
     // So many readings stand at the front of the run, and so many lengths at the front of those.
     pub readings: u64,
     pub channels: u64,
-    // Whether there is nothing more to replay.
-    pub ended: bool,
 }
 
 impl State {
@@ -25,21 +23,14 @@ impl State {
             progress: Progress::new(),
             readings: 0,
             channels: 0,
-            ended: false,
         }
     }
 
-    // After a call: the replay ends where its record was not whole.
-    pub(crate) fn after(mut self, progress: Progress) -> State {
-        self.progress = progress;
-        self.ended = !progress.more;
-        self
-    }
-
     // The record is not whole, or of no known form.
-    fn stopped(self) -> State {
+    fn stopped(mut self) -> State {
         let progress = self.progress;
-        self.after(progress.stopped())
+        self.progress = progress.stopped();
+        self
     }
 
     // With so many readings and lengths in use, if all of them were read.
@@ -69,7 +60,8 @@ pub(crate) fn next_other(
         return state.with(state.readings, read.value, read.whole);
     }
     if letter == END {
-        state.ended = true;
+        let progress = state.progress;
+        state.progress = progress.ended();
         return state;
     }
     state.stopped()

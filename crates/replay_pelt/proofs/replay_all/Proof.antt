@@ -78,20 +78,17 @@ slice-aggregate-replay-search-6 c = sym (length-take-le _ _ (omega arith))
 replay-search-requires : tie.Need-replay-search-requires Inv-loop μ-loop
 replay-search-requires c κs = search needs
 
-after-requires : tie.Need-after-requires Inv-loop μ-loop
-after-requires c κs = search needs
-
 loop-less : tie.Need-loop-less Inv-loop μ-loop
-loop-less c = omega (arith, c .before .before .before .before .before .before .before .before .before .before .before .before .before .before .before .before .loop-test .taken)
+loop-less c = omega (arith, c .before .before .before .before .before .before .before .before .before .before .before .before .before .before .before .before .before .loop-test .taken)
 
 loop-again : tie.Need-loop-again Inv-loop μ-loop
 loop-again c = (
-  c .before .before .before .before .before .before .before .before .before .before .before .before .before .before .before .before .before .loop .inv .0,
-  c .before .before .before .before .before .before .before .before .before .before .before .before .before .before .before .before .before .loop .inv .1,
-  stays 2064 (c .before .before .before .before .before .before .before .before .before .before .before .before .before .room-of .result .cuts) (c .before .before .before .before .before .before .before .before .before .before .before .before .before .before .before .before .before .loop .cuts) (c .before .before .before .before .before .replay-search .last .1 .1 .1 .1 .0) (c .before .before .before .before .before .before .before .before .before .before .before .before .before .before .before .before .before .loop .inv .2) (c .before .before .before .before .before .before .before .before .before .before .before .before .before .room-of .ensures .0) (c .before .before .before .before .before .replay-search .kept .1 .1 .1 .1 .0),
-  stays 73776 (c .before .before .before .before .before .before .before .before .before .before .before .before .before .room-of .result .floats) (c .before .before .before .before .before .before .before .before .before .before .before .before .before .before .before .before .before .loop .floats) (c .before .before .before .before .before .replay-search .last .1 .1 .1 .1 .1 .0) (c .before .before .before .before .before .before .before .before .before .before .before .before .before .before .before .before .before .loop .inv .3) (c .before .before .before .before .before .before .before .before .before .before .before .before .before .room-of .ensures .1) (c .before .before .before .before .before .replay-search .kept .1 .1 .1 .1 .1 .0),
-  stays 12312 (c .before .before .before .before .before .before .before .before .before .before .before .before .before .room-of .result .indices) (c .before .before .before .before .before .before .before .before .before .before .before .before .before .before .before .before .before .loop .indices) (c .before .before .before .before .before .replay-search .last .1 .1 .1 .1 .1 .1 .0) (c .before .before .before .before .before .before .before .before .before .before .before .before .before .before .before .before .before .loop .inv .4) (c .before .before .before .before .before .before .before .before .before .before .before .before .before .room-of .ensures .2) (c .before .before .before .before .before .replay-search .kept .1 .1 .1 .1 .1 .1 .0),
-  stays 64000 (c .before .before .before .before .before .before .before .before .before .before .before .before .before .room-of .result .pool) (c .before .before .before .before .before .before .before .before .before .before .before .before .before .before .before .before .before .loop .pool) (c .before .before .before .before .before .replay-search .last .1 .1 .1 .1 .1 .1 .1 .0) (c .before .before .before .before .before .before .before .before .before .before .before .before .before .before .before .before .before .loop .inv .5) (c .before .before .before .before .before .before .before .before .before .before .before .before .before .room-of .ensures .3) (c .before .before .before .before .before .replay-search .kept .1 .1 .1 .1 .1 .1 .1 .0),
+  c .before .before .before .before .before .before .before .before .before .before .before .before .before .before .before .before .before .before .loop .inv .0,
+  c .before .before .before .before .before .before .before .before .before .before .before .before .before .before .before .before .before .before .loop .inv .1,
+  stays 2064 (c .before .before .before .before .before .before .before .before .before .before .before .before .room-of .result .cuts) (c .before .before .before .before .before .before .before .before .before .before .before .before .before .before .before .before .before .before .loop .cuts) (c .before .before .before .before .replay-search .last .1 .1 .1 .1 .0) (c .before .before .before .before .before .before .before .before .before .before .before .before .before .before .before .before .before .before .loop .inv .2) (c .before .before .before .before .before .before .before .before .before .before .before .before .room-of .ensures .0) (c .before .before .before .before .replay-search .kept .1 .1 .1 .1 .0),
+  stays 73776 (c .before .before .before .before .before .before .before .before .before .before .before .before .room-of .result .floats) (c .before .before .before .before .before .before .before .before .before .before .before .before .before .before .before .before .before .before .loop .floats) (c .before .before .before .before .replay-search .last .1 .1 .1 .1 .1 .0) (c .before .before .before .before .before .before .before .before .before .before .before .before .before .before .before .before .before .before .loop .inv .3) (c .before .before .before .before .before .before .before .before .before .before .before .before .room-of .ensures .1) (c .before .before .before .before .replay-search .kept .1 .1 .1 .1 .1 .0),
+  stays 12312 (c .before .before .before .before .before .before .before .before .before .before .before .before .room-of .result .indices) (c .before .before .before .before .before .before .before .before .before .before .before .before .before .before .before .before .before .before .loop .indices) (c .before .before .before .before .replay-search .last .1 .1 .1 .1 .1 .1 .0) (c .before .before .before .before .before .before .before .before .before .before .before .before .before .before .before .before .before .before .loop .inv .4) (c .before .before .before .before .before .before .before .before .before .before .before .before .room-of .ensures .2) (c .before .before .before .before .replay-search .kept .1 .1 .1 .1 .1 .1 .0),
+  stays 64000 (c .before .before .before .before .before .before .before .before .before .before .before .before .room-of .result .pool) (c .before .before .before .before .before .before .before .before .before .before .before .before .before .before .before .before .before .before .loop .pool) (c .before .before .before .before .replay-search .last .1 .1 .1 .1 .1 .1 .1 .0) (c .before .before .before .before .before .before .before .before .before .before .before .before .before .before .before .before .before .before .loop .inv .5) (c .before .before .before .before .before .before .before .before .before .before .before .before .room-of .ensures .3) (c .before .before .before .before .replay-search .kept .1 .1 .1 .1 .1 .1 .1 .0),
 )
 
 slice-aggregate-next-other : tie.Need-slice-aggregate-next-other Inv-loop μ-loop
@@ -137,7 +134,6 @@ replay-all-spec =
     array-borrow-prefix-pool
     slice-aggregate-replay-search-6
     replay-search-requires
-    after-requires
     loop-less
     loop-again
     slice-aggregate-next-other
