@@ -3,25 +3,18 @@ ghost use Prim.Native.Nat.{_+_, _≤_};
 ghost use Rattle.replay.specs.Front.{Front};
 use libc::STDIN_FILENO;
 
-// So many bytes of the input as were asked for, at the front, if the input had them.
+// So many bytes of the input as were asked for, at the front, if the input had them all.
 pub struct Block {
     pub bytes: [u8; 33],
+    // Whether the input had them all, and whether it had any.
     pub whole: bool,
+    pub begun: bool,
 }
 
-// The settings of a chart: target, sigma, and then k and h or lambda and L.
-pub struct Settings {
-    pub target: f64,
-    pub sigma: f64,
-    pub third: f64,
-    pub fourth: f64,
-}
-
-// The beginning of a case.
-pub enum Header {
-    Case(u8, Settings),
-    End,
-    Damaged,
+// A number of the input, if the input had all of its bytes.
+pub struct Stored {
+    pub value: u64,
+    pub whole: bool,
 }
 
 // A series, at the front of the readings, and the number of its refusal, or 0.
@@ -30,12 +23,6 @@ pub struct Series {
     pub count: usize,
     pub refusal: u64,
     pub whole: bool,
-}
-
-// How many indices are stored for a series.
-pub enum Count {
-    Of(usize),
-    Ended,
 }
 
 fn wide(byte: u8) -> u64 {
@@ -55,6 +42,13 @@ pub fn number(bytes: &[u8; 33], start: usize, width: usize) -> u64
     value
 }
 
+// The float whose bit pattern stands from `start` on.
+pub fn float(bytes: &[u8; 33], start: usize) -> f64
+    requires { ⌜ start ≤ 25 ⌝ }
+{
+    floats::from_bits(number(bytes, start, 8))
+}
+
 // The next bytes of the input.
 pub fn next_block(width: usize) -> Block
     requires { ⌜ width ≤ 33 ⌝ }
@@ -64,32 +58,19 @@ pub fn next_block(width: usize) -> Block
     Block {
         bytes,
         whole: count == width,
+        begun: count != 0,
     }
 }
 
-fn value(bytes: &[u8; 33], start: usize) -> f64
-    requires { ⌜ start ≤ 25 ⌝ }
+// The next number of the input, of so many bytes.
+pub fn next_number(width: usize) -> Stored
+    requires { ⌜ width ≤ 33 ⌝ }
 {
-    floats::from_bits(number(bytes, start, 8))
-}
-
-// The letter and the settings of the next case.
-pub fn next_header() -> Header {
-    let mut bytes = [0u8; 33];
-    let count = io::read_full(STDIN_FILENO, &mut bytes);
-    if count == 33 {
-        let settings = Settings {
-            target: value(&bytes, 1),
-            sigma: value(&bytes, 9),
-            third: value(&bytes, 17),
-            fourth: value(&bytes, 25),
-        };
-        return Header::Case(bytes[0], settings);
-    }
-    if count == 0 {
-        Header::End
-    } else {
-        Header::Damaged
+    let block = next_block(width);
+    let bytes = block.bytes;
+    Stored {
+        value: number(&bytes, 0, width),
+        whole: block.whole,
     }
 }
 
@@ -102,10 +83,9 @@ pub fn next_readings(count: usize) -> Series
     let mut whole = true;
     let mut i = 0;
     while i < count {
-        let block = next_block(8);
-        let bytes = block.bytes;
-        readings[i] = value(&bytes, 0);
-        whole = charts::both(whole, block.whole);
+        let next = next_number(8);
+        readings[i] = floats::from_bits(next.value);
+        whole = whole & next.whole;
         i += 1;
     }
     Series {
@@ -120,15 +100,13 @@ pub fn next_readings(count: usize) -> Series
 pub fn next_series() -> Series
     ensures { λ r. ⌜ Front (r .count) (r .readings) ⌝ }
 {
-    let length = next_block(2);
-    let digits = length.bytes;
-    let count = number(&digits, 0, 2) as usize;
+    let length = next_number(2);
+    let count = length.value as usize;
     if count <= 4096 {
         let mut series = next_readings(count);
-        let last = next_block(1);
-        let byte = last.bytes;
-        series.refusal = number(&byte, 0, 1);
-        series.whole = charts::both(charts::both(length.whole, series.whole), last.whole);
+        let last = next_number(1);
+        series.refusal = last.value;
+        series.whole = length.whole & series.whole & last.whole;
         return series;
     }
     Series {
@@ -137,17 +115,4 @@ pub fn next_series() -> Series
         refusal: 0,
         whole: false,
     }
-}
-
-// How many indices the input has for a series of this refusal, which come next.
-pub fn next_count(refusal: u64) -> Count {
-    if refusal == 0 {
-        let block = next_block(2);
-        let bytes = block.bytes;
-        if block.whole {
-            return Count::Of(number(&bytes, 0, 2) as usize);
-        }
-        return Count::Ended;
-    }
-    Count::Of(0)
 }

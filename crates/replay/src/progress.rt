@@ -1,179 +1,138 @@
 // What was compared so far, and what was found.
+ghost use Prim.Native.Nat.{_≤_};
+use crate::input::number;
 use libc::STDOUT_FILENO;
-
-// How many were compared, and how many of them differ.
-pub struct Tally {
-    pub cases: u64,
-    pub differ: u64,
-}
-
-// What is counted: the answers for a series, its records and its indices, the lent places that a call
-// has to leave alone, run lengths, answers at a limit that no stored case has, noise variances and sums
-// of them, and costs.
-pub enum What {
-    Series,
-    Record,
-    Point,
-    Kept,
-    RunLength,
-    Limit,
-    Noise,
-    NoiseSum,
-    Cost,
-}
+use std::num::wrapping_add_u64;
 
 pub struct Progress {
-    pub series: Tally,
-    pub records: Tally,
-    pub points: Tally,
-    pub kept: Tally,
-    pub run_lengths: Tally,
-    pub limits: Tally,
-    pub noises: Tally,
-    pub noise_sums: Tally,
-    pub costs: Tally,
+    // How many were compared of each kind, and how many of them differ. What a kind is, the program says
+    // that counts it.
+    pub cases: [u64; Progress::KINDS],
+    pub differ: [u64; Progress::KINDS],
     // How many cases were begun.
     pub begun: u64,
     // How many differences may still be shown.
     pub lines: u64,
-    // Whether what was compared since the last count is as stored.
-    pub same: bool,
-    // Whether each case so far was whole.
-    pub whole: bool,
+    // 1 if something differs that was compared since the last count, or 0.
+    pub unlike: u64,
+    // Whether there may be more: each case so far was whole, and none was the last.
+    pub more: bool,
 }
 
-fn one_more(n: u64) -> u64 {
-    if n < u64::MAX { n + 1 } else { n }
-}
-
-fn print(text: &[u8]) {
-    io::write_all(STDOUT_FILENO, text);
-}
-
-fn print_count(count: u64) {
+fn print_count(label: &[u8], count: u64) {
+    io::write_all(STDOUT_FILENO, label);
     io::print_decimal(STDOUT_FILENO, count);
 }
 
-fn print_number(label: &[u8], number: u64) {
-    print(label);
-    io::print_hex(STDOUT_FILENO, number, 16);
+fn print_pattern(label: &[u8], pattern: u64) {
+    io::write_all(STDOUT_FILENO, label);
+    io::print_hex(STDOUT_FILENO, pattern, 16);
 }
 
-impl Tally {
-    fn none() -> Tally {
-        Tally {
-            cases: 0,
-            differ: 0,
-        }
-    }
+fn show(begun: u64, value: u64, place: usize, expected: u64, got: u64) {
+    print_count(b"case ", begun);
+    print_count(b" value ", value);
+    print_count(b" place ", place as u64);
+    print_pattern(b" expected ", expected);
+    print_pattern(b" got ", got);
+    io::write_all(STDOUT_FILENO, b"\n");
+}
 
-    fn counted(self, same: bool) -> Tally {
-        let cases = one_more(self.cases);
-        let differ = if same {
-            self.differ
-        } else {
-            one_more(self.differ)
-        };
-        Tally { cases, differ }
+fn report_kind(kind: usize, cases: u64, differ: u64) {
+    if cases == 0 {
+        return;
     }
-
-    // Prints a line: how many of these were compared, and how many differ.
-    pub fn report(self, name: &[u8]) {
-        print_count(self.cases);
-        print(name);
-        print_count(self.differ);
-        print(b" differ\n");
-    }
+    print_count(b"kind ", kind as u64);
+    print_count(b": ", cases);
+    print_count(b", ", differ);
+    io::write_all(STDOUT_FILENO, b" differ\n");
 }
 
 impl Progress {
+    // How many kinds there may be.
+    pub const KINDS: usize = 24;
+
     pub fn new() -> Progress {
-        let none = Tally::none();
         Progress {
-            series: none,
-            records: none,
-            points: none,
-            kept: none,
-            run_lengths: none,
-            limits: none,
-            noises: none,
-            noise_sums: none,
-            costs: none,
+            cases: [0; Progress::KINDS],
+            differ: [0; Progress::KINDS],
             begun: 0,
             lines: 20,
-            same: true,
-            whole: true,
+            unlike: 0,
+            more: true,
         }
     }
 
     // One case more is begun.
     pub fn begun(mut self) -> Progress {
-        self.begun = one_more(self.begun);
+        self.begun = wrapping_add_u64(self.begun, 1);
         self
     }
 
-    // The case is not whole. It says so, once.
-    pub fn stopped(mut self) -> Progress {
-        if self.whole {
-            print(b"case ");
-            print_count(self.begun);
-            print(b" ends too early, or is of no known form\n");
-        }
-        self.whole = false;
+    // There is no case more.
+    pub fn ended(mut self) -> Progress {
+        self.more = false;
         self
     }
 
-    // Compares what a call gave at an index with what is stored, and shows a difference while lines
-    // are left.
-    pub fn matched(mut self, name: &[u8], index: usize, expected: u64, got: u64) -> Progress {
+    // The case is not whole, and the replay ends.
+    pub fn stopped(self) -> Progress {
+        print_count(b"too short, or of no known form: case ", self.begun);
+        io::write_all(STDOUT_FILENO, b"\n");
+        self.ended()
+    }
+
+    // Compares what a call gave at a place with what is stored, and shows a difference while lines are
+    // left. The value's number says what it is.
+    pub fn matched(mut self, value: u64, place: usize, expected: u64, got: u64) -> Progress {
         if expected == got {
             return self;
         }
-        self.same = false;
+        self.unlike = 1;
         if self.lines == 0 {
             return self;
         }
         self.lines = self.lines - 1;
-        print(b"case ");
-        print_count(self.begun);
-        print(b" ");
-        print(name);
-        print(b" ");
-        print_count(index as u64);
-        print_number(b" expected ", expected);
-        print_number(b" got ", got);
-        print(b"\n");
+        show(self.begun, value, place, expected, got);
         self
     }
 
-    // Counts what was compared.
-    pub fn counted(mut self, what: What) -> Progress {
-        match what {
-            What::Series => self.series = self.series.counted(self.same),
-            What::Record => self.records = self.records.counted(self.same),
-            What::Point => self.points = self.points.counted(self.same),
-            What::Kept => self.kept = self.kept.counted(self.same),
-            What::RunLength => self.run_lengths = self.run_lengths.counted(self.same),
-            What::Limit => self.limits = self.limits.counted(self.same),
-            What::Noise => self.noises = self.noises.counted(self.same),
-            What::NoiseSum => self.noise_sums = self.noise_sums.counted(self.same),
-            What::Cost => self.costs = self.costs.counted(self.same),
-        }
-        self.same = true;
+    // The same of a float, whose bit pattern is stored from `start` on.
+    pub fn matched_float(
+        self,
+        value: u64,
+        place: usize,
+        bytes: &[u8; 33],
+        start: usize,
+        got: f64,
+    ) -> Progress
+        requires { ⌜ start ≤ 25 ⌝ }
+    {
+        self.matched(value, place, number(bytes, start, 8), floats::to_bits(got))
+    }
+
+    // One more of a kind, which differs if `unlike` is 1.
+    pub fn tallied(mut self, kind: usize, unlike: u64) -> Progress {
+        let place = kind % Progress::KINDS;
+        self.cases[place] = wrapping_add_u64(self.cases[place], 1);
+        self.differ[place] = wrapping_add_u64(self.differ[place], unlike);
         self
     }
 
-    // Prints what was found of a chart, but for run lengths.
+    // Counts what was compared since the last count as one of a kind.
+    pub fn counted(mut self, kind: usize) -> Progress {
+        let unlike = self.unlike;
+        self.unlike = 0;
+        self.tallied(kind, unlike)
+    }
+
+    // Prints how many there are of each kind of which there is one, and how many differ. Cost: one turn
+    // for each kind.
     pub fn report(self) {
-        let series = self.series;
-        let records = self.records;
-        let points = self.points;
-        let kept = self.kept;
-        let limits = self.limits;
-        series.report(b" series, ");
-        records.report(b" records, ");
-        points.report(b" points, ");
-        kept.report(b" places left alone, ");
-        limits.report(b" limits, ");
+        let mut kind = 0;
+        while kind < Progress::KINDS {
+            report_kind(kind, self.cases[kind], self.differ[kind]);
+            kind += 1;
+        }
     }
 }

@@ -3,6 +3,14 @@
 // of each differ. Lent records and indices that a call has no result for have to be as they were. Values
 // come and go as bit patterns, by `floats::from_bits` and `floats::to_bits`.
 //
+// The kinds are 0 for series, 1 for records, 2 for indices, 3 for places that are to be as they were, 4
+// for calls at a limit, and 5 for run lengths. The values are shown by these numbers:
+//
+//     0 to 2    of a record the upper sum, the lower sum, and its index with the signal 32 bits higher
+//     5, 6      the answers of signal_points and analyze: how many results, or a refusal 32 bits higher
+//     7, 8      an index, and a lent index behind the last
+//     9         a run length, or a refusal 32 bits higher
+//
 // The answers are the unmodified Rust's. Standard input was made by
 //
 //     target/vectors_charts cusum > crates/replay_cusum/stdin
@@ -18,10 +26,10 @@ use cusum::Cusum;
 use cusum::Side;
 use limits::limits;
 use records::replay_answers;
-use replay::Header;
+use replay::Block;
 use replay::Progress;
-use replay::Settings;
-use replay::What;
+use replay::SERIES;
+use replay::float;
 use run_length::replay_run_length;
 
 // The series that the input has next, by this chart.
@@ -30,26 +38,37 @@ fn replay_series(progress: Progress, chart: Cusum) -> Progress {
     if series.whole {
         let readings = series.readings;
         let count = series.count;
-        return replay_answers(
-            progress,
-            chart,
-            &readings[..count],
-            series.refusal,
-            What::Series,
-        );
+        return replay_answers(progress, chart, &readings[..count], series.refusal, SERIES);
     }
     progress.stopped()
 }
 
-// The rest of a case that begins with this letter and these settings.
-fn replay_case(progress: Progress, letter: u8, s: Settings) -> Progress {
-    let chart = Cusum::with_params(s.target, s.sigma, s.third, s.fourth);
-    match letter {
-        b'n' => replay_series(progress, Cusum::new(s.target, s.sigma)),
-        b'p' => replay_series(progress, chart),
-        b'u' => replay_run_length(progress, chart, Side::Upper),
-        b'l' => replay_run_length(progress, chart, Side::Lower),
-        _ => progress.stopped(),
+// The chart whose settings these are.
+fn chart_of(bytes: &[u8; 33]) -> Cusum {
+    let target = float(bytes, 1);
+    let sigma = float(bytes, 9);
+    if bytes[0] == b'n' {
+        return Cusum::new(target, sigma);
+    }
+    Cusum::with_params(target, sigma, float(bytes, 17), float(bytes, 25))
+}
+
+// The case whose first 33 bytes these are.
+fn replay_case(progress: Progress, block: Block) -> Progress {
+    if !block.begun {
+        return progress.ended();
+    }
+    let begun = progress.begun();
+    if !block.whole {
+        return begun.stopped();
+    }
+    let bytes = block.bytes;
+    let chart = chart_of(&bytes);
+    match bytes[0] {
+        b'n' | b'p' => replay_series(begun, chart),
+        b'u' => replay_run_length(begun, chart, Side::Upper),
+        b'l' => replay_run_length(begun, chart, Side::Lower),
+        _ => begun.stopped(),
     }
 }
 
@@ -58,14 +77,8 @@ fn replay_all() -> Progress {
     let mut progress = Progress::new();
     let mut turn = 0u64;
     while turn < u64::MAX {
-        match replay::next_header() {
-            Header::Case(letter, settings) => {
-                progress = replay_case(progress.begun(), letter, settings);
-            }
-            Header::End => return progress,
-            Header::Damaged => return progress.begun().stopped(),
-        }
-        if !progress.whole {
+        progress = replay_case(progress, replay::next_block(33));
+        if !progress.more {
             return progress;
         }
         turn += 1;
@@ -74,8 +87,5 @@ fn replay_all() -> Progress {
 }
 
 fn main() {
-    let progress = limits(replay_all());
-    let run_lengths = progress.run_lengths;
-    progress.report();
-    run_lengths.report(b" run lengths, ");
+    limits(replay_all()).report();
 }

@@ -3,16 +3,17 @@ use crate::lend::lend;
 use charts::Observation;
 use cusum::Cusum;
 use cusum::CusumResult;
-use replay::Count;
+use replay::KEPT;
 use replay::Progress;
-use replay::What;
+use replay::RECORD;
+use replay::number;
 
-// A record as numbers, values by their bit patterns.
+// A record as numbers, values by their bit patterns. The mark is the index, and 32 bits higher a 1 for a
+// signal.
 struct Fields {
     s_upper: u64,
     s_lower: u64,
-    signal: u64,
-    index: u64,
+    mark: u64,
 }
 
 // What lent records are before a call: the index is none of a reading.
@@ -25,26 +26,32 @@ pub(crate) fn unused() -> CusumResult {
     }
 }
 
+fn marked(signal: bool, index: usize) -> u64 {
+    if signal {
+        return 1 << 32 | index as u64;
+    }
+    index as u64
+}
+
 fn fields_of(record: CusumResult) -> Fields {
     let index = record.index;
     Fields {
         s_upper: floats::to_bits(record.s_upper),
         s_lower: floats::to_bits(record.s_lower),
-        signal: if record.signal { 1 } else { 0 },
-        index: index.0 as u64,
+        mark: marked(record.signal, index.0),
     }
 }
 
-fn match_fields(mut progress: Progress, i: usize, expected: Fields, got: Fields) -> Progress {
-    progress = progress.matched(b"s_upper", i, expected.s_upper, got.s_upper);
-    progress = progress.matched(b"s_lower", i, expected.s_lower, got.s_lower);
-    progress = progress.matched(b"signal", i, expected.signal, got.signal);
-    progress.matched(b"index", i, expected.index, got.index)
+fn match_fields(progress: Progress, i: usize, expected: Fields, got: Fields) -> Progress {
+    progress
+        .matched(0, i, expected.s_upper, got.s_upper)
+        .matched(1, i, expected.s_lower, got.s_lower)
+        .matched(2, i, expected.mark, got.mark)
 }
 
 // Compares a record that stands in the lent ones with what was there before.
 pub(crate) fn match_unused(progress: Progress, place: usize, got: CusumResult) -> Progress {
-    match_fields(progress, place, fields_of(unused()), fields_of(got)).counted(What::Kept)
+    match_fields(progress, place, fields_of(unused()), fields_of(got)).counted(KEPT)
 }
 
 // Compares a record that stands in the lent ones with the one that the input has next, or where none is
@@ -55,12 +62,11 @@ fn compare_record(progress: Progress, place: usize, got: CusumResult, stored: bo
         if block.whole {
             let bytes = block.bytes;
             let expected = Fields {
-                s_upper: replay::number(&bytes, 0, 8),
-                s_lower: replay::number(&bytes, 8, 8),
-                signal: replay::number(&bytes, 16, 1),
-                index: replay::number(&bytes, 17, 2),
+                s_upper: number(&bytes, 0, 8),
+                s_lower: number(&bytes, 8, 8),
+                mark: number(&bytes, 16, 1) << 32 | number(&bytes, 17, 2),
             };
-            return match_fields(progress, place, expected, fields_of(got)).counted(What::Record);
+            return match_fields(progress, place, expected, fields_of(got)).counted(RECORD);
         }
         return progress.stopped();
     }
@@ -82,25 +88,34 @@ fn compare_records(
 }
 
 // Compares what the chart makes of the readings with the refusal of this number, or where that is 0 with
-// what the input has next, and counts the answers as `what` says.
+// what the input has next, and counts the answers as one of a kind.
 pub(crate) fn replay_answers(
     progress: Progress,
     chart: Cusum,
     data: &[f64],
     refusal: u64,
-    what: What,
+    kind: usize,
 ) -> Progress {
-    let Count::Of(points_stored) = replay::next_count(refusal) else {
+    let next = replay::next_count(refusal);
+    if !next.whole {
         return progress.stopped();
-    };
+    }
+    let points_stored = next.value as usize;
     let records_stored = if refusal == 0 { data.len() } else { 0 };
     let mut points = [replay::UNUSED; 4097];
     let signalled = chart.signal_points(data, &mut points);
     let lent = lend(chart, data, [unused(); 4097]);
     let charted = lent.answer;
     let records = lent.records;
-    let marked = replay::match_signalled(progress, signalled, refusal, points_stored);
-    let answered = replay::match_charted(marked, charted, refusal, records_stored).counted(what);
+    let answered = replay::match_answers(
+        progress,
+        kind,
+        refusal,
+        points_stored,
+        signalled,
+        records_stored,
+        charted,
+    );
     let compared = replay::compare_points(answered, &points, points_stored);
     compare_records(compared, records, records_stored)
 }

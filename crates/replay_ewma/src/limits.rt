@@ -6,8 +6,9 @@ use crate::records::match_unused;
 use crate::records::replay_answers;
 use crate::records::unused;
 use ewma::Ewma;
+use replay::LIMIT;
 use replay::Progress;
-use replay::What;
+use replay::match_answers;
 
 // Compares a refusal of this number, with room for two results.
 fn refused_two(progress: Progress, chart: Ewma, data: &[f64], refusal: u64) -> Progress {
@@ -16,8 +17,7 @@ fn refused_two(progress: Progress, chart: Ewma, data: &[f64], refusal: u64) -> P
     let lent = lend_two(chart, data, [unused(); 2]);
     let charted = lent.answer;
     let records = lent.records;
-    let marked = replay::match_signalled(progress, signalled, refusal, 0);
-    let answered = replay::match_charted(marked, charted, refusal, 0).counted(What::Limit);
+    let answered = match_answers(progress, LIMIT, refusal, 0, signalled, 0, charted);
     let first = match_unused(answered, 0, records[0]);
     let second = match_unused(first, 1, records[1]);
     let third = replay::compare_point(second, 0, points[0], false);
@@ -30,16 +30,15 @@ fn answered_two(progress: Progress, chart: Ewma, data: &[f64], signals: usize) -
     let signalled = chart.signal_points(data, &mut points);
     let lent = lend_two(chart, data, [unused(); 2]);
     let charted = lent.answer;
-    let marked = replay::match_signalled(progress, signalled, 0, signals);
-    replay::match_charted(marked, charted, 0, 2).counted(What::Limit)
+    match_answers(progress, LIMIT, 0, signals, signalled, 2, charted)
 }
 
 pub(crate) fn limits(mut progress: Progress) -> Progress {
     let chart = Ewma::new(0.0, 1.0);
     let refused = Ewma::new(0.0, -1.0);
     let long = [3.0; 4097];
-    progress = replay_answers(progress.begun(), chart, &long, 6, What::Limit);
-    progress = replay_answers(progress.begun(), refused, &long, 11, What::Limit);
+    progress = replay_answers(progress.begun(), chart, &long, 6, LIMIT);
+    progress = replay_answers(progress.begun(), refused, &long, 11, LIMIT);
     progress = refused_two(progress.begun(), chart, &long, 6);
     progress = refused_two(progress.begun(), refused, &long, 11);
     progress = refused_two(progress.begun(), chart, &[3.0, 3.0, 3.0], 7);

@@ -3,6 +3,13 @@
 // differ. Lent records and indices that a call has no result for have to be as they were. Values
 // come and go as bit patterns, by `floats::from_bits` and `floats::to_bits`.
 //
+// The kinds are 0 for series, 1 for records, 2 for indices, 3 for places that are to be as they were, 4
+// for calls at a limit. The values are shown by these numbers:
+//
+//     0 to 3    of a record the value, the limits, and its index with the signal 32 bits higher
+//     5, 6      the answers of signal_points and analyze: how many results, or a refusal 32 bits higher
+//     7, 8      an index, and a lent index behind the last
+//
 // The answers are the unmodified Rust's. Standard input was made by
 //
 //     target/vectors_charts ewma > crates/replay_ewma/stdin
@@ -16,10 +23,10 @@ mod records;
 use ewma::Ewma;
 use limits::limits;
 use records::replay_answers;
-use replay::Header;
+use replay::Block;
 use replay::Progress;
-use replay::Settings;
-use replay::What;
+use replay::SERIES;
+use replay::float;
 
 // The series that the input has next, by this chart.
 fn replay_series(progress: Progress, chart: Ewma) -> Progress {
@@ -27,24 +34,35 @@ fn replay_series(progress: Progress, chart: Ewma) -> Progress {
     if series.whole {
         let readings = series.readings;
         let count = series.count;
-        return replay_answers(
-            progress,
-            chart,
-            &readings[..count],
-            series.refusal,
-            What::Series,
-        );
+        return replay_answers(progress, chart, &readings[..count], series.refusal, SERIES);
     }
     progress.stopped()
 }
 
-// The rest of a case that begins with this letter and these settings.
-fn replay_case(progress: Progress, letter: u8, s: Settings) -> Progress {
-    let chart = Ewma::with_params(s.target, s.sigma, s.third, s.fourth);
-    match letter {
-        b'n' => replay_series(progress, Ewma::new(s.target, s.sigma)),
-        b'p' => replay_series(progress, chart),
-        _ => progress.stopped(),
+// The chart whose settings these are.
+fn chart_of(bytes: &[u8; 33]) -> Ewma {
+    let target = float(bytes, 1);
+    let sigma = float(bytes, 9);
+    if bytes[0] == b'n' {
+        return Ewma::new(target, sigma);
+    }
+    Ewma::with_params(target, sigma, float(bytes, 17), float(bytes, 25))
+}
+
+// The case whose first 33 bytes these are.
+fn replay_case(progress: Progress, block: Block) -> Progress {
+    if !block.begun {
+        return progress.ended();
+    }
+    let begun = progress.begun();
+    if !block.whole {
+        return begun.stopped();
+    }
+    let bytes = block.bytes;
+    let chart = chart_of(&bytes);
+    match bytes[0] {
+        b'n' | b'p' => replay_series(begun, chart),
+        _ => begun.stopped(),
     }
 }
 
@@ -53,14 +71,8 @@ fn replay_all() -> Progress {
     let mut progress = Progress::new();
     let mut turn = 0u64;
     while turn < u64::MAX {
-        match replay::next_header() {
-            Header::Case(letter, settings) => {
-                progress = replay_case(progress.begun(), letter, settings);
-            }
-            Header::End => return progress,
-            Header::Damaged => return progress.begun().stopped(),
-        }
-        if !progress.whole {
+        progress = replay_case(progress, replay::next_block(33));
+        if !progress.more {
             return progress;
         }
         turn += 1;

@@ -3,17 +3,18 @@ use crate::lend::lend;
 use charts::Observation;
 use ewma::Ewma;
 use ewma::EwmaResult;
-use replay::Count;
+use replay::KEPT;
 use replay::Progress;
-use replay::What;
+use replay::RECORD;
+use replay::number;
 
-// A record as numbers, values by their bit patterns.
+// A record as numbers, values by their bit patterns. The mark is the index, and 32 bits higher a 1 for a
+// signal.
 struct Fields {
     ewma: u64,
     ucl: u64,
     lcl: u64,
-    signal: u64,
-    index: u64,
+    mark: u64,
 }
 
 // What lent records are before a call: the index is none of a reading.
@@ -27,28 +28,34 @@ pub(crate) fn unused() -> EwmaResult {
     }
 }
 
+fn marked(signal: bool, index: usize) -> u64 {
+    if signal {
+        return 1 << 32 | index as u64;
+    }
+    index as u64
+}
+
 fn fields_of(record: EwmaResult) -> Fields {
     let index = record.index;
     Fields {
         ewma: floats::to_bits(record.ewma),
         ucl: floats::to_bits(record.ucl),
         lcl: floats::to_bits(record.lcl),
-        signal: if record.signal { 1 } else { 0 },
-        index: index.0 as u64,
+        mark: marked(record.signal, index.0),
     }
 }
 
-fn match_fields(mut progress: Progress, i: usize, expected: Fields, got: Fields) -> Progress {
-    progress = progress.matched(b"ewma", i, expected.ewma, got.ewma);
-    progress = progress.matched(b"ucl", i, expected.ucl, got.ucl);
-    progress = progress.matched(b"lcl", i, expected.lcl, got.lcl);
-    progress = progress.matched(b"signal", i, expected.signal, got.signal);
-    progress.matched(b"index", i, expected.index, got.index)
+fn match_fields(progress: Progress, i: usize, expected: Fields, got: Fields) -> Progress {
+    progress
+        .matched(0, i, expected.ewma, got.ewma)
+        .matched(1, i, expected.ucl, got.ucl)
+        .matched(2, i, expected.lcl, got.lcl)
+        .matched(3, i, expected.mark, got.mark)
 }
 
 // Compares a record that stands in the lent ones with what was there before.
 pub(crate) fn match_unused(progress: Progress, place: usize, got: EwmaResult) -> Progress {
-    match_fields(progress, place, fields_of(unused()), fields_of(got)).counted(What::Kept)
+    match_fields(progress, place, fields_of(unused()), fields_of(got)).counted(KEPT)
 }
 
 // Compares a record that stands in the lent ones with the one that the input has next, or where none is
@@ -59,13 +66,12 @@ fn compare_record(progress: Progress, place: usize, got: EwmaResult, stored: boo
         if block.whole {
             let bytes = block.bytes;
             let expected = Fields {
-                ewma: replay::number(&bytes, 0, 8),
-                ucl: replay::number(&bytes, 8, 8),
-                lcl: replay::number(&bytes, 16, 8),
-                signal: replay::number(&bytes, 24, 1),
-                index: replay::number(&bytes, 25, 2),
+                ewma: number(&bytes, 0, 8),
+                ucl: number(&bytes, 8, 8),
+                lcl: number(&bytes, 16, 8),
+                mark: number(&bytes, 24, 1) << 32 | number(&bytes, 25, 2),
             };
-            return match_fields(progress, place, expected, fields_of(got)).counted(What::Record);
+            return match_fields(progress, place, expected, fields_of(got)).counted(RECORD);
         }
         return progress.stopped();
     }
@@ -83,25 +89,34 @@ fn compare_records(mut progress: Progress, records: [EwmaResult; 4097], stored: 
 }
 
 // Compares what the chart makes of the readings with the refusal of this number, or where that is 0 with
-// what the input has next, and counts the answers as `what` says.
+// what the input has next, and counts the answers as one of a kind.
 pub(crate) fn replay_answers(
     progress: Progress,
     chart: Ewma,
     data: &[f64],
     refusal: u64,
-    what: What,
+    kind: usize,
 ) -> Progress {
-    let Count::Of(points_stored) = replay::next_count(refusal) else {
+    let next = replay::next_count(refusal);
+    if !next.whole {
         return progress.stopped();
-    };
+    }
+    let points_stored = next.value as usize;
     let records_stored = if refusal == 0 { data.len() } else { 0 };
     let mut points = [replay::UNUSED; 4097];
     let signalled = chart.signal_points(data, &mut points);
     let lent = lend(chart, data, [unused(); 4097]);
     let charted = lent.answer;
     let records = lent.records;
-    let marked = replay::match_signalled(progress, signalled, refusal, points_stored);
-    let answered = replay::match_charted(marked, charted, refusal, records_stored).counted(what);
+    let answered = replay::match_answers(
+        progress,
+        kind,
+        refusal,
+        points_stored,
+        signalled,
+        records_stored,
+        charted,
+    );
     let compared = replay::compare_points(answered, &points, points_stored);
     compare_records(compared, records, records_stored)
 }

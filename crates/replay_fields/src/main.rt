@@ -1,6 +1,8 @@
 // Replays stored inputs of the program `cuts` through `fields::answer`, of which the program is made,
 // and compares what it answers byte for byte: the length of the output, its bytes, and the zeros behind
-// them. It shows the first differences, and says how many there are of each kind of output.
+// them. It shows the first differences, and says how many there are of each kind of output: 1 to 10 are
+// the refusals, 11 answers without a cut, 12 answers with cuts. Value 0 is the first place at which the
+// outputs differ, or how many bytes an output may have, and value 1 the length of the output.
 //
 // Standard input was made by
 //
@@ -8,14 +10,19 @@
 //
 // where the first lines of `tests/vectors/fields.rs` say how that program is built, and what a case is
 // made of.
-mod state;
 mod stored;
 
 use fields::Printed;
-use state::State;
-use state::kind_of;
+use replay::Progress;
+use replay::next_number;
 use stored::OUTPUT;
+use stored::kind_of;
 use stored::next_bytes;
+
+// The letters of the records: a case, and the end.
+const CASE: u64 = b'c' as u64;
+
+const END: u64 = b'e' as u64;
 
 // The first place at which the bytes differ, or where there is none their length. Cost: one turn for each
 // byte.
@@ -31,55 +38,61 @@ fn first_unlike(expected: &[u8; OUTPUT], got: &[u8; OUTPUT]) -> usize {
 }
 
 // Compares an output with the stored one.
-fn compare(state: State, expected: &[u8; OUTPUT], length: usize, printed: Printed) -> State {
-    let kind = kind_of(expected);
-    let counted = state.counted(kind);
+fn compare(
+    progress: Progress,
+    expected: &[u8; OUTPUT],
+    length: usize,
+    printed: Printed,
+) -> Progress {
     let got = printed.bytes;
     let at = first_unlike(expected, &got);
-    if charts::both(at == OUTPUT, length == printed.length) {
-        return counted;
-    }
-    counted.differing(kind, at)
+    progress
+        .matched(0, 0, OUTPUT as u64, at as u64)
+        .matched(1, 0, length as u64, printed.length as u64)
+        .counted(kind_of(expected))
 }
 
 // The next case: an input and the output that is to come of it.
-fn replay_case(state: State) -> State {
+fn replay_case(progress: Progress) -> Progress {
     let mut input = [0; OUTPUT];
     let mut expected = [0; OUTPUT];
     let asked = next_bytes(&mut input);
     let stored = next_bytes(&mut expected);
-    if !charts::both(asked.whole, stored.whole) {
-        return state.stopped();
+    if !(asked.whole & stored.whole) {
+        return progress.stopped();
     }
     let length = asked.length;
     let printed = fields::answer(&input[..length]);
-    compare(state, &expected, stored.length, printed)
+    compare(progress, &expected, stored.length, printed)
 }
 
-// Replays the cases of standard input up to the end, which is an `e`. The count ends the loop, since
-// nothing says that the input does.
-fn replay_all() -> State {
-    let mut state = State::new();
+// What standard input has next: a case, or the end.
+fn replay_record(progress: Progress) -> Progress {
+    let letter = next_number(1);
+    if letter.value == CASE {
+        return replay_case(progress.begun());
+    }
+    if letter.value == END {
+        return progress.ended();
+    }
+    progress.begun().stopped()
+}
+
+// Replays the cases of standard input up to the end. The count ends the loop, since nothing says that the
+// input does.
+fn replay_all() -> Progress {
+    let mut progress = Progress::new();
     let mut turn = 0u64;
     while turn < u64::MAX {
-        let block = replay::next_block(1);
-        let letter = block.bytes;
-        if letter[0] == b'e' {
-            return state;
-        }
-        if letter[0] != b'c' {
-            return state.stopped();
-        }
-        state = replay_case(state);
-        if !state.whole {
-            return state;
+        progress = replay_record(progress);
+        if !progress.more {
+            return progress;
         }
         turn += 1;
     }
-    state
+    progress
 }
 
 fn main() {
-    let state = replay_all();
-    state.report();
+    replay_all().report();
 }

@@ -1,4 +1,4 @@
-// Reading what a case is made of: so many bytes, with their number in front.
+// Reading what a case is made of: so many bytes, with their number in front. And the kind of an output.
 ghost use Prim.Native.Nat.{_≤_};
 ghost use lib.ListN.{length};
 use libc::STDIN_FILENO;
@@ -30,6 +30,30 @@ pub(crate) fn next_bytes(area: &mut [u8]) -> Stored
     let count = io::read_full(STDIN_FILENO, &mut area[..length]);
     Stored {
         length,
-        whole: charts::both(block.whole, count == length),
+        whole: block.whole & (count == length),
     }
+}
+
+// The kinds of answers. A refusal's kind is its number.
+const NO_CUTS: usize = 11;
+
+const CUTS: usize = 12;
+
+// What a digit counts.
+fn digit(byte: u8) -> usize {
+    byte as usize % 16
+}
+
+// The kind of an output: for a refusal the number after its word, which is one digit or 10.
+pub(crate) fn kind_of(output: &[u8; OUTPUT]) -> usize {
+    if output[0] == b'r' {
+        if output[9] == b'0' {
+            return 10;
+        }
+        return digit(output[8]);
+    }
+    if output[5] == b'0' {
+        return NO_CUTS;
+    }
+    CUTS
 }

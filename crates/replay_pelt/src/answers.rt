@@ -1,155 +1,122 @@
 // Comparing what a call answered, and what it left in the lent areas, with what is stored.
+use crate::calls::Call;
+use crate::lent::Found;
 use crate::lent::first_float_unlike;
 use crate::lent::first_index_unlike;
-use crate::lent::float_left;
-use crate::lent::index_left;
-use crate::state::Outcomes;
-use crate::state::State;
-use floats::to_bits;
 use pelt::Searched;
 use refusals::Refusal;
-use replay::next_block;
-use replay::number;
+use replay::Progress;
+use replay::next_number;
 
-// The number of a refusal, or 0; for 8 the channel and the index; the number of cuts.
-pub(crate) struct Answer {
-    pub refusal: u64,
-    pub channel: u64,
-    pub index: u64,
-    pub cuts: u64,
+// The kinds of what is compared: see `main`. The others follow from the stored numbers.
+const CUT: usize = 8;
+
+const CUTS_AREA: usize = 9;
+
+const CLEARED: usize = 10;
+
+const LEFT: usize = 11;
+
+// Two bytes for a number. None that is stored is as large as the largest.
+fn short(n: usize) -> u64 {
+    if n < 65535 {
+        return n as u64;
+    }
+    65535
 }
 
-impl Answer {
-    // The answer whose bytes these are.
-    pub(crate) fn stored(bytes: &[u8; 33]) -> Answer {
-        Answer {
-            refusal: number(bytes, 0, 1),
-            channel: number(bytes, 1, 2),
-            index: number(bytes, 3, 2),
-            cuts: number(bytes, 5, 2),
-        }
-    }
-
-    fn refused(refusal: Refusal) -> Answer {
-        let number = refusal.number();
-        match refusal {
-            Refusal::NonFinite { channel, index } => Answer {
-                refusal: number,
-                channel: channel as u64,
-                index: index as u64,
-                cuts: 0,
-            },
-            _ => Answer {
-                refusal: number,
-                channel: 0,
-                index: 0,
-                cuts: 0,
-            },
-        }
-    }
-
-    fn given(searched: Searched) -> Answer {
-        match searched {
-            Searched::Cuts(cuts) => Answer {
-                refusal: 0,
-                channel: 0,
-                index: 0,
-                cuts: cuts as u64,
-            },
-            Searched::Refused(refusal) => Answer::refused(refusal),
-        }
-    }
-
-    // Whether the work areas are to be zero afterwards: refusals before 9 change no area.
-    fn clears(self) -> bool {
-        charts::either(self.refusal == 0, self.refusal == 9)
+fn refused(refusal: Refusal) -> u64 {
+    let number = refusal.number() << 48;
+    match refusal {
+        Refusal::NonFinite { channel, index } => number | short(channel) << 32 | short(index) << 16,
+        _ => number,
     }
 }
 
-// Compares an answer with the stored one.
-pub(crate) fn match_answer(state: State, stored: Answer, searched: Searched) -> State {
-    let given = Answer::given(searched);
-    let first = state.matched(b"refusal", 0, stored.refusal, given.refusal);
-    let second = first.matched(b"channel", 0, stored.channel, given.channel);
-    let third = second.matched(b"index", 0, stored.index, given.index);
-    third.matched(b"number of cuts", 0, stored.cuts, given.cuts)
+// An answer as it is stored, in one number.
+fn given(searched: Searched) -> u64 {
+    match searched {
+        Searched::Cuts(cuts) => short(cuts),
+        Searched::Refused(refusal) => refused(refusal),
+    }
+}
+
+// The kind of a stored outcome: an answer by cost and penalty, or a refusal by its number.
+fn outcome(settings: u64, refusal: u64) -> usize {
+    if refusal == 0 {
+        return (4 + settings / 65536 % 2 * 2 + settings / 256 % 2) as usize;
+    }
+    (11 + refusal % 13) as usize
+}
+
+// Compares what was found, and counts it as one of a kind.
+fn compared(progress: Progress, kind: usize, found: Found) -> Progress {
+    if found.expected == found.got {
+        return progress.tallied(kind, 0);
+    }
+    progress
+        .matched(kind as u64, found.place, found.expected, found.got)
+        .tallied(kind, 1)
 }
 
 // Compares a cut with the one that the input has next.
-fn match_cut(state: State, place: usize, got: usize) -> State {
-    let block = next_block(2);
-    let bytes = block.bytes;
-    if block.whole {
-        return state.compared(
-            Outcomes::CUTS,
-            b"cut",
+fn match_cut(progress: Progress, place: usize, got: usize) -> Progress {
+    let next = next_number(2);
+    if next.whole {
+        let found = Found {
             place,
-            number(&bytes, 0, 2),
-            got as u64,
-        );
+            expected: next.value,
+            got: got as u64,
+        };
+        return compared(progress, CUT, found);
     }
-    state.stopped()
+    progress.stopped()
 }
 
-// The cuts, all of which are stored. Cost: one turn for each.
-fn match_each(mut state: State, cuts: &[usize]) -> State {
+// The cuts area: so many cuts are stored, and the rest is to be as it was. Cost: one turn for each cut.
+fn match_cuts(mut progress: Progress, stored: usize, cuts: &[usize]) -> Progress {
+    if cuts.len() < stored {
+        return progress.stopped();
+    }
     let mut i = 0;
-    while i < cuts.len() {
-        state = match_cut(state, i, cuts[i]);
+    while i < stored {
+        progress = match_cut(progress, i, cuts[i]);
         i += 1;
     }
-    state
+    compared(progress, CUTS_AREA, first_index_unlike(cuts, stored, false))
 }
 
-// The cuts area: so many cuts are stored, and the rest is to be as it was.
-pub(crate) fn match_cuts(state: State, stored: usize, cuts: &[usize]) -> State {
-    if cuts.len() < stored {
-        return state.stopped();
-    }
-    let matched = match_each(state, &cuts[..stored]);
-    match_indices(matched, Outcomes::CUTS_AREAS, cuts, stored, false)
-}
-
-// An area of floats: all of it is to be zero, or as it was.
-fn match_floats(state: State, kind: usize, area: &[f64], cleared: bool) -> State {
-    let at = first_float_unlike(area, cleared);
-    if at < area.len() {
-        return state.compared(
-            kind,
-            b"float",
-            at,
-            float_left(cleared, at),
-            to_bits(area[at]),
-        );
-    }
-    state.compared(kind, b"float", at, 0, 0)
-}
-
-// An area of indices from a place on likewise.
-fn match_indices(state: State, kind: usize, area: &[usize], from: usize, cleared: bool) -> State {
-    let at = first_index_unlike(area, from, cleared);
-    if at < area.len() {
-        let expected = index_left(cleared, at) as u64;
-        return state.compared(kind, b"lent index", at, expected, area[at] as u64);
-    }
-    state.compared(kind, b"lent index", at, 0, 0)
-}
-
-// The work areas after a call with this answer.
-pub(crate) fn match_areas(
-    state: State,
-    stored: Answer,
+// The work areas: all of each is to be zero, or as it was.
+fn match_areas(
+    progress: Progress,
+    cleared: bool,
     floats: &[f64],
     indices: &[usize],
     pool: &[f64],
-) -> State {
-    let cleared = stored.clears();
-    let kind = if cleared {
-        Outcomes::CLEARED
-    } else {
-        Outcomes::LEFT
-    };
-    let first = match_floats(state, kind, floats, cleared);
-    let second = match_indices(first, kind, indices, 0, cleared);
-    match_floats(second, kind, pool, cleared)
+) -> Progress {
+    let kind = if cleared { CLEARED } else { LEFT };
+    let first = compared(progress, kind, first_float_unlike(floats, cleared));
+    let second = compared(first, kind, first_index_unlike(indices, 0, cleared));
+    compared(second, kind, first_float_unlike(pool, cleared))
+}
+
+// All that is stored of a search. Refusals before 9 change no work area.
+pub(crate) fn match_all(
+    progress: Progress,
+    call: Call,
+    searched: Searched,
+    cuts: &[usize],
+    floats: &[f64],
+    indices: &[usize],
+    pool: &[f64],
+) -> Progress {
+    let stored = call.stored;
+    let refusal = stored >> 48;
+    let cleared = (refusal == 0) | (refusal == 9);
+    let first = progress.begun().matched(12, 0, stored, given(searched));
+    let second = match_cuts(first, (stored % 65536) as usize, cuts);
+    let third = match_areas(second, cleared, floats, indices, pool);
+    third
+        .tallied((call.settings >> 24) as usize, third.unlike)
+        .counted(outcome(call.settings, refusal))
 }

@@ -1,77 +1,74 @@
-// The areas: reading the run and the lengths from standard input, what the lent ones hold before a call,
-// and the first place of one that a call left otherwise than it should.
-use crate::state::State;
+// The areas: reading the run from standard input, what the lent ones hold before a call, and the first
+// place of one that a call left otherwise than it should.
 use floats::from_bits;
 use floats::to_bits;
-use replay::next_block;
-use replay::number;
+use replay::Stored;
+use replay::next_number;
 use std::num::nearest_u64_to_f64;
 
-// Fills the run, and says whether the input had all of it. Cost: one turn for each reading.
-fn fill_readings(run: &mut [f64]) -> bool {
-    let mut whole = true;
+// The areas have room for 8 channels of 4,096 readings and for 320 slots, and some to spare.
+pub(crate) const READINGS: usize = 32776;
+
+pub(crate) const CHANNELS: usize = 16;
+
+pub(crate) const CUTS: usize = 2064;
+
+pub(crate) const FLOATS: usize = 73776;
+
+pub(crate) const INDICES: usize = 12312;
+
+pub(crate) const POOL: usize = 64000;
+
+// The next readings: their number, which is the answer, and each of them. Cost: one turn for each.
+pub(crate) fn next_run(run: &mut [f64]) -> Stored {
+    let mut count = next_number(2);
+    let readings = count.value as usize;
+    count.whole = count.whole & (readings <= run.len());
     let mut i = 0;
     while i < run.len() {
-        let block = next_block(8);
-        let bytes = block.bytes;
-        run[i] = from_bits(number(&bytes, 0, 8));
-        whole = charts::both(whole, block.whole);
+        if readings <= i {
+            return count;
+        }
+        let next = next_number(8);
+        run[i] = from_bits(next.value);
+        count.whole = count.whole & next.whole;
         i += 1;
     }
-    whole
+    count
 }
 
-// Fills the lengths likewise. Cost: one turn for each.
-fn fill_lengths(lengths: &mut [usize]) -> bool {
-    let mut whole = true;
+// The next lengths likewise.
+pub(crate) fn next_lengths(lengths: &mut [usize]) -> Stored {
+    let mut count = next_number(1);
+    let channels = count.value as usize;
+    count.whole = count.whole & (channels <= lengths.len());
     let mut i = 0;
     while i < lengths.len() {
-        let block = next_block(8);
-        let bytes = block.bytes;
-        lengths[i] = number(&bytes, 0, 8) as usize;
-        whole = charts::both(whole, block.whole);
+        if channels <= i {
+            return count;
+        }
+        let next = next_number(8);
+        lengths[i] = next.value as usize;
+        count.whole = count.whole & next.whole;
         i += 1;
     }
-    whole
+    count
 }
 
-// The next readings: their number, and each of them.
-pub(crate) fn next_readings(mut state: State, run: &mut [f64]) -> State {
-    let block = next_block(2);
-    let bytes = block.bytes;
-    let count = number(&bytes, 0, 2) as usize;
-    if run.len() < count {
-        return state.stopped();
+// What a float is to be after a call, and with `cleared` false before one: below 0, so that a search that
+// reads it takes it for a low cost.
+fn float_left(cleared: bool, place: usize) -> f64 {
+    if cleared {
+        return 0.0;
     }
-    if !fill_readings(&mut run[..count]) {
-        return state.stopped();
-    }
-    state.readings = count;
-    state
-}
-
-// The next lengths: their number, and each of them.
-pub(crate) fn next_lengths(mut state: State, lengths: &mut [usize]) -> State {
-    let block = next_block(1);
-    let bytes = block.bytes;
-    let count = number(&bytes, 0, 1) as usize;
-    if lengths.len() < count {
-        return state.stopped();
-    }
-    if !fill_lengths(&mut lengths[..count]) {
-        return state.stopped();
-    }
-    state.channels = count;
-    state
-}
-
-// What a float is before a call: below 0, so that a search that reads it takes it for a low cost.
-fn unused_float(place: usize) -> f64 {
     -0.5 - nearest_u64_to_f64(place as u64)
 }
 
-// What an index or a cut is before a call: no index of a reading.
-fn unused_index(place: usize) -> usize {
+// The same of an index or a cut: before a call no index of a reading.
+fn index_left(cleared: bool, place: usize) -> usize {
+    if cleared {
+        return 0;
+    }
     place % 1000 + 9000
 }
 
@@ -79,7 +76,7 @@ fn unused_index(place: usize) -> usize {
 pub(crate) fn spoil_floats(area: &mut [f64]) {
     let mut i = 0;
     while i < area.len() {
-        area[i] = unused_float(i);
+        area[i] = float_left(false, i);
         i += 1;
     }
 }
@@ -88,48 +85,58 @@ pub(crate) fn spoil_floats(area: &mut [f64]) {
 pub(crate) fn spoil_indices(area: &mut [usize]) {
     let mut i = 0;
     while i < area.len() {
-        area[i] = unused_index(i);
+        area[i] = index_left(false, i);
         i += 1;
     }
 }
 
-// What a float is to be after a call.
-pub(crate) fn float_left(cleared: bool, place: usize) -> u64 {
-    if cleared {
-        return 0;
-    }
-    to_bits(unused_float(place))
-}
-
-// What an index is to be after a call.
-pub(crate) fn index_left(cleared: bool, place: usize) -> usize {
-    if cleared {
-        return 0;
-    }
-    unused_index(place)
+// What was found at a place, and what was to be found there.
+pub(crate) struct Found {
+    pub place: usize,
+    pub expected: u64,
+    pub got: u64,
 }
 
 // The first place whose float is not as it is to be, or where there is none the area's length. Cost: one
 // turn for each place.
-pub(crate) fn first_float_unlike(area: &[f64], cleared: bool) -> usize {
-    let mut i = 0;
-    while i < area.len() {
-        if to_bits(area[i]) != float_left(cleared, i) {
-            return i;
+pub(crate) fn first_float_unlike(area: &[f64], cleared: bool) -> Found {
+    let mut place = 0;
+    while place < area.len() {
+        let expected = to_bits(float_left(cleared, place));
+        let got = to_bits(area[place]);
+        if expected != got {
+            return Found {
+                place,
+                expected,
+                got,
+            };
         }
-        i += 1;
+        place += 1;
     }
-    i
+    Found {
+        place,
+        expected: 0,
+        got: 0,
+    }
 }
 
 // The same of indices, from a place on.
-pub(crate) fn first_index_unlike(area: &[usize], from: usize, cleared: bool) -> usize {
-    let mut i = from;
-    while i < area.len() {
-        if area[i] != index_left(cleared, i) {
-            return i;
+pub(crate) fn first_index_unlike(area: &[usize], from: usize, cleared: bool) -> Found {
+    let mut place = from;
+    while place < area.len() {
+        let expected = index_left(cleared, place);
+        if expected != area[place] {
+            return Found {
+                place,
+                expected: expected as u64,
+                got: area[place] as u64,
+            };
         }
-        i += 1;
+        place += 1;
     }
-    i
+    Found {
+        place,
+        expected: 0,
+        got: 0,
+    }
 }

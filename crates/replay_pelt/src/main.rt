@@ -3,7 +3,17 @@
 // among it, the cuts at the front of the cuts area, that the rest of it is as it was, and every lent work
 // float, index and pool float: zero after an answer and after refusal 9, and as it was after any other
 // refusal. The areas hold junk before each call. It shows the first differences, and says how many there
-// are of each function and outcome.
+// are of each kind:
+//
+//     0 to 3    searches by detect, detect_multi, detect_strict, detect_multi_strict
+//     4 to 7    answers for L2 by BIC, L2 with a custom penalty, Normal by BIC, Normal with a custom one
+//     8, 9      cuts, and cuts areas behind the last cut
+//     10, 11    work areas that are to be cleared, and that are to be as they were
+//     12 to 20  refusals 1 to 9
+//
+// A search differs if anything in it does. A difference is shown with the kind of what differs as its
+// value, and 12 for an answer: the refusal's number in a byte, the channel and the index of refusal 8 and
+// the number of cuts in two each.
 //
 // Standard input was made by
 //
@@ -16,48 +26,24 @@ mod calls;
 mod lent;
 mod state;
 
-use calls::replay_call;
-use lent::next_lengths;
-use lent::next_readings;
+use calls::next_call;
+use calls::replay_search;
+use calls::room_of;
+use lent::CHANNELS;
+use lent::CUTS;
+use lent::FLOATS;
+use lent::INDICES;
+use lent::POOL;
+use lent::READINGS;
+use replay::Progress;
 use state::State;
+use state::next_other;
 
-// The areas have room for 8 channels of 4,096 readings and for 320 slots, and some to spare.
-const READINGS: usize = 32776;
-
-const LENGTHS: usize = 16;
-
-const CUTS: usize = 2064;
-
-const FLOATS: usize = 73776;
-
-const INDICES: usize = 12312;
-
-const POOL: usize = 64000;
-
-// What standard input has next, after its letter: readings, lengths, or a call on both.
-fn replay_record(
-    state: State,
-    letter: u8,
-    run: &mut [f64; READINGS],
-    lengths: &mut [usize; LENGTHS],
-    cuts: &mut [usize; CUTS],
-    floats: &mut [f64; FLOATS],
-    indices: &mut [usize; INDICES],
-    pool: &mut [f64; POOL],
-) -> State {
-    match letter {
-        b'r' => next_readings(state, run),
-        b'l' => next_lengths(state, lengths),
-        b'c' => replay_call(state, run, lengths, cuts, floats, indices, pool),
-        _ => state.stopped(),
-    }
-}
-
-// Replays the records of standard input up to the last, which is an `e`. The count ends the loop, since
-// nothing says that the input does.
-fn replay_all() -> State {
+// Replays the records of standard input up to the last: a call, or what stands between calls. The count
+// ends the loop, since nothing says that the input does.
+fn replay_all() -> Progress {
     let mut run = [0.0; READINGS];
-    let mut lengths = [0; LENGTHS];
+    let mut lengths = [0; CHANNELS];
     let mut cuts = [0; CUTS];
     let mut floats = [0.0; FLOATS];
     let mut indices = [0; INDICES];
@@ -65,30 +51,31 @@ fn replay_all() -> State {
     let mut state = State::new();
     let mut turn = 0u64;
     while turn < u64::MAX {
-        let block = replay::next_block(1);
-        let bytes = block.bytes;
-        if bytes[0] == b'e' {
-            return state;
-        }
-        state = replay_record(
-            state,
-            bytes[0],
-            &mut run,
-            &mut lengths,
-            &mut cuts,
-            &mut floats,
-            &mut indices,
-            &mut pool,
-        );
-        if !state.whole() {
-            return state;
-        }
         turn += 1;
+        let progress = state.progress;
+        if !progress.more {
+            return progress;
+        }
+        let call = next_call();
+        let room = room_of(call, state.readings, state.channels);
+        if room.fits {
+            state.progress = replay_search(
+                progress,
+                call,
+                &run[..room.readings],
+                &lengths[..room.channels],
+                &mut cuts[..room.cuts],
+                &mut floats[..room.floats],
+                &mut indices[..room.indices],
+                &mut pool[..room.pool],
+            );
+        } else {
+            state = next_other(state, call.letter, &mut run, &mut lengths);
+        }
     }
-    state
+    state.progress
 }
 
 fn main() {
-    let state = replay_all();
-    state.report();
+    replay_all().report();
 }

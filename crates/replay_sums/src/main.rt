@@ -3,6 +3,16 @@
 // that are not the stored ones, to the bit, and says how many there are of each kind, and how many
 // differ. Values come and go as bit patterns, by `floats::from_bits` and `floats::to_bits`.
 //
+// The kinds are 0 for pieces, 1 for penalties, 2 for noise variances, 3 for sums of them, 4 for lent
+// places, and 5 for segments of channels. The values of each are shown by these numbers:
+//
+//     0 to 2    of a piece its refusal and length, its mean and its spread
+//     3 to 5    of its channel the mean, the lowest and the highest value
+//     6 to 9    the running sums at start and end, and those of the squares
+//     10, 11    the L2 cost and the Normal cost of a piece, or of a segment over the channels
+//     12 to 14  the penalty by BIC for L2 and for Normal, and a custom one
+//     15 to 18  a noise variance, a sum of them, how many lent places are cleared, and a lent place
+//
 // Standard input was made by
 //
 //     target/vectors_sums > crates/replay_sums/stdin
@@ -17,16 +27,23 @@ mod variances;
 
 use penalties::replay_penalty;
 use pieces::replay_piece;
+use replay::Block;
 use replay::Progress;
 use runs::replay_run;
 
-// What standard input has next, after its first 33 bytes.
-fn replay_case(progress: Progress, letter: u8, bytes: &[u8; 33]) -> Progress {
-    match letter {
-        b's' => replay_piece(progress, bytes),
-        b'q' => replay_penalty(progress, bytes),
-        b'r' => replay_run(progress, bytes),
-        _ => progress.stopped(),
+// The case whose first 33 bytes these are.
+fn replay_case(progress: Progress, block: Block) -> Progress {
+    let bytes = block.bytes;
+    let begun = progress.begun();
+    if !block.whole {
+        return begun.stopped();
+    }
+    match bytes[0] {
+        b's' => replay_piece(begun, &bytes),
+        b'q' => replay_penalty(begun, &bytes),
+        b'r' => replay_run(begun, &bytes),
+        b'e' => progress.ended(),
+        _ => begun.stopped(),
     }
 }
 
@@ -36,16 +53,8 @@ fn replay_all() -> Progress {
     let mut progress = Progress::new();
     let mut turn = 0u64;
     while turn < u64::MAX {
-        let block = replay::next_block(33);
-        let bytes = block.bytes;
-        if !block.whole {
-            return progress.begun().stopped();
-        }
-        if bytes[0] == b'e' {
-            return progress;
-        }
-        progress = replay_case(progress.begun(), bytes[0], &bytes);
-        if !progress.whole {
+        progress = replay_case(progress, replay::next_block(33));
+        if !progress.more {
             return progress;
         }
         turn += 1;
@@ -54,17 +63,5 @@ fn replay_all() -> Progress {
 }
 
 fn main() {
-    let progress = replay_all();
-    let pieces = progress.series;
-    let penalties = progress.limits;
-    let variances = progress.noises;
-    let sums = progress.noise_sums;
-    let places = progress.kept;
-    let costs = progress.costs;
-    pieces.report(b" pieces, ");
-    penalties.report(b" penalties, ");
-    variances.report(b" noise variances, ");
-    sums.report(b" sums of noise variances, ");
-    places.report(b" lent places, ");
-    costs.report(b" segments of channels, ");
+    replay_all().report();
 }

@@ -2,12 +2,13 @@
 use costs::CostFunction;
 use costs::Penalty;
 use costs::resolve_penalty;
-use floats::from_bits;
-use floats::to_bits;
 use replay::Progress;
-use replay::What;
+use replay::float;
 use replay::next_block;
 use replay::number;
+
+// The kind of a penalty.
+const PENALTY: usize = 1;
 
 // The three penalties of a case, where the noise variances add up to `noise`. `rest` is what follows
 // its first 33 bytes.
@@ -17,21 +18,17 @@ pub(crate) fn match_penalties(
     rest: &[u8; 33],
     noise: f64,
 ) -> Progress {
-    let custom = Penalty::Custom(from_bits(number(bytes, 1, 8)));
+    let custom = Penalty::Custom(float(bytes, 1));
     let n = number(rest, 0, 2) as usize;
     let channels = number(rest, 2, 2) as usize;
     let l2 = resolve_penalty(Penalty::Bic, CostFunction::L2, n, channels, noise);
     let normal = resolve_penalty(Penalty::Bic, CostFunction::Normal, n, channels, noise);
     let own = resolve_penalty(custom, CostFunction::L2, n, channels, noise);
-    let first = progress.matched(b"penalty of L2", n, number(bytes, 17, 8), to_bits(l2));
-    let second = first.matched(
-        b"penalty of Normal",
-        n,
-        number(bytes, 25, 8),
-        to_bits(normal),
-    );
-    let third = second.matched(b"custom penalty", n, number(rest, 4, 8), to_bits(own));
-    third.counted(What::Limit)
+    progress
+        .matched_float(12, n, bytes, 17, l2)
+        .matched_float(13, n, bytes, 25, normal)
+        .matched_float(14, n, rest, 4, own)
+        .counted(PENALTY)
 }
 
 // The penalty whose first 33 bytes are these.
@@ -41,5 +38,5 @@ pub(crate) fn replay_penalty(progress: Progress, bytes: &[u8; 33]) -> Progress {
     if !block.whole {
         return progress.stopped();
     }
-    match_penalties(progress, bytes, &rest, from_bits(number(bytes, 9, 8)))
+    match_penalties(progress, bytes, &rest, float(bytes, 9))
 }

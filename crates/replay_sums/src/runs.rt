@@ -28,27 +28,27 @@ fn match_run(
     match_segments(second, run, n, channels, segments)
 }
 
+// The room whose bytes these are. A size that is too large leaves its remainder.
+fn room_of(rest: &[u8; 33]) -> Room
+    ensures { λ r. ⌜ r .size ≤ 4104 ⌝ }
+{
+    Room {
+        place: number(rest, 14, 2) as usize,
+        size: number(rest, 16, 2) as usize % 4105,
+        cleared: number(rest, 18, 2) as usize,
+    }
+}
+
 // The run whose first 33 bytes are these.
 pub(crate) fn replay_run(progress: Progress, bytes: &[u8; 33]) -> Progress {
     let block = next_block(22);
     let rest = block.bytes;
     let count = number(&rest, 12, 2) as usize;
-    let room = Room {
-        place: number(&rest, 14, 2) as usize,
-        size: number(&rest, 16, 2) as usize,
-        cleared: number(&rest, 18, 2) as usize,
-    };
-    if block.whole {
-        if count <= 4096 {
-            if room.size <= 4104 {
-                let series = next_readings(count);
-                let readings = series.readings;
-                let run = &readings[..series.count];
-                if series.whole {
-                    return match_run(progress, bytes, &rest, run, room);
-                }
-            }
-        }
+    let series = next_readings(count % 4097);
+    if !(block.whole & series.whole & (count <= 4096) & (number(&rest, 16, 2) <= 4104)) {
+        return progress.stopped();
     }
-    progress.stopped()
+    let readings = series.readings;
+    let run = &readings[..series.count];
+    match_run(progress, bytes, &rest, run, room_of(&rest))
 }

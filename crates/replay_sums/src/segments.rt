@@ -1,16 +1,17 @@
 // Comparing the costs of segments, added over the channels of a run, with the stored ones.
 use costs::CostFunction;
 use costs::cost_of;
-use floats::to_bits;
 use replay::Progress;
-use replay::What;
 use replay::next_block;
 use replay::number;
+
+// The kind of a segment.
+const SEGMENT: usize = 5;
 
 // Compares the costs of the segment that the input has next.
 fn match_segment(
     progress: Progress,
-    sums: &[f64; 8208],
+    sums: &[f64],
     n: usize,
     channels: usize,
     index: usize,
@@ -24,20 +25,16 @@ fn match_segment(
     let end = number(&bytes, 2, 2) as usize;
     let l2 = cost_of(CostFunction::L2, sums, n, channels, start, end);
     let normal = cost_of(CostFunction::Normal, sums, n, channels, start, end);
-    let first = progress.matched(b"L2 cost", index, number(&bytes, 4, 8), to_bits(l2));
-    let second = first.matched(
-        b"Normal cost",
-        index,
-        number(&bytes, 12, 8),
-        to_bits(normal),
-    );
-    second.counted(What::Cost)
+    progress
+        .matched_float(10, index, &bytes, 4, l2)
+        .matched_float(11, index, &bytes, 12, normal)
+        .counted(SEGMENT)
 }
 
 // Cost: one turn for each segment.
 fn match_each(
     mut progress: Progress,
-    sums: &[f64; 8208],
+    sums: &[f64],
     n: usize,
     channels: usize,
     segments: usize,

@@ -7,9 +7,15 @@ use noise::noise_sum;
 use noise::noise_variance;
 use readings::channel;
 use replay::Progress;
-use replay::What;
-use replay::next_block;
+use replay::next_number;
 use replay::number;
+
+// The kinds of what is compared here.
+const VARIANCE: usize = 2;
+
+const SUM: usize = 3;
+
+const PLACE: usize = 4;
 
 // So many places are lent, and the differences stand from `place` on; so many of those are cleared.
 pub(crate) struct Room {
@@ -21,6 +27,16 @@ pub(crate) struct Room {
 // What each place is before a call.
 fn unused() -> f64 {
     9999.0
+}
+
+// The bits of what a place is to be after a call.
+fn left_at(room: Room, place: usize) -> u64 {
+    if room.place <= place {
+        if place - room.place < room.cleared {
+            return 0;
+        }
+    }
+    to_bits(unused())
 }
 
 // Cost: one turn for each place.
@@ -37,39 +53,24 @@ fn zeros_of(area: &[f64]) -> usize {
     zeros
 }
 
-fn is_cleared(room: Room, place: usize) -> bool {
-    if room.place <= place {
-        return place - room.place < room.cleared;
-    }
-    false
-}
-
-fn match_place(progress: Progress, room: Room, place: usize, got: f64) -> Progress {
-    let expected = if is_cleared(room, place) {
-        0.0
-    } else {
-        unused()
-    };
-    let matched = progress.matched(b"lent place", place, to_bits(expected), to_bits(got));
-    matched.counted(What::Kept)
-}
-
 // Cost: one turn for each place.
 fn match_places(mut progress: Progress, room: Room, area: &[f64]) -> Progress {
     let mut i = 0;
     while i < area.len() {
-        progress = match_place(progress, room, i, area[i]);
+        progress = progress
+            .matched(18, i, left_at(room, i), to_bits(area[i]))
+            .counted(PLACE);
         i += 1;
     }
     progress
 }
 
-// Compares the area after a call with the room, and counts the call's answer as `what` says. The cleared
-// places are counted too, for the room may say that there are some behind the last.
-fn match_area(progress: Progress, what: What, index: usize, room: Room, area: &[f64]) -> Progress {
+// Compares the area after a call with the room, and counts the call's answer as one of a kind. The
+// cleared places are counted too, for the room may say that there are some behind the last.
+fn match_area(progress: Progress, kind: usize, index: usize, room: Room, area: &[f64]) -> Progress {
     let zeros = zeros_of(area) as u64;
-    let matched = progress.matched(b"cleared places", index, room.cleared as u64, zeros);
-    match_places(matched.counted(what), room, area)
+    let matched = progress.matched(17, index, room.cleared as u64, zeros);
+    match_places(matched.counted(kind), room, area)
 }
 
 // The noise variance of channel k, worked out in an unused area.
@@ -82,24 +83,12 @@ fn match_variance(
     area: &mut [f64],
 ) -> Progress {
     let variance = noise_variance(channel, area, room.place);
-    let matched = progress.matched(b"noise variance", k, expected, to_bits(variance));
-    match_area(matched, What::Noise, k, room, area)
-}
-
-fn match_sum(
-    progress: Progress,
-    n: usize,
-    room: Room,
-    expected: u64,
-    sum: f64,
-    area: &[f64],
-) -> Progress {
-    let matched = progress.matched(b"noise sum", n, expected, to_bits(sum));
-    match_area(matched, What::NoiseSum, n, room, area)
+    let matched = progress.matched(15, k, expected, to_bits(variance));
+    match_area(matched, VARIANCE, k, room, area)
 }
 
 // The sum of the noise variances of a run, worked out in an unused area, and the penalties that it gives.
-fn match_sum_and_penalties(
+fn match_sum(
     progress: Progress,
     bytes: &[u8; 33],
     rest: &[u8; 33],
@@ -110,8 +99,8 @@ fn match_sum_and_penalties(
     let n = number(rest, 0, 2) as usize;
     let channels = number(rest, 2, 2) as usize;
     let sum = noise_sum(run, n, channels, area, room.place);
-    let matched = match_sum(progress, n, room, number(bytes, 9, 8), sum, area);
-    match_penalties(matched, bytes, rest, sum)
+    let matched = progress.matched_float(16, n, bytes, 9, sum);
+    match_penalties(match_area(matched, SUM, n, room, area), bytes, rest, sum)
 }
 
 // The area has room for the differences of 4,096 readings, and some to spare.
@@ -125,33 +114,27 @@ pub(crate) fn lend_for_sum(
     requires { ⌜ room .size ≤ 4104 ⌝ }
 {
     let mut area = [unused(); 4104];
-    match_sum_and_penalties(progress, bytes, rest, run, room, &mut area[..room.size])
+    match_sum(progress, bytes, rest, run, room, &mut area[..room.size])
 }
 
-// The same area, unused again.
-fn lend_for_variance(
-    progress: Progress,
-    channel: &[f64],
-    k: usize,
-    room: Room,
-    expected: u64,
-) -> Progress
-    requires { ⌜ room .size ≤ 4104 ⌝ }
-{
-    let mut area = [unused(); 4104];
-    match_variance(progress, channel, k, room, expected, &mut area[..room.size])
-}
-
-// Compares the noise variance of channel k with the one that the input has next.
+// Compares the noise variance of channel k with the one that the input has next. The area is the same,
+// unused again.
 fn next_variance(progress: Progress, channel: &[f64], k: usize, room: Room) -> Progress
     requires { ⌜ room .size ≤ 4104 ⌝ }
 {
-    let block = next_block(8);
-    let bytes = block.bytes;
-    if block.whole {
-        return lend_for_variance(progress, channel, k, room, number(&bytes, 0, 8));
+    let next = next_number(8);
+    if !next.whole {
+        return progress.stopped();
     }
-    progress.stopped()
+    let mut area = [unused(); 4104];
+    match_variance(
+        progress,
+        channel,
+        k,
+        room,
+        next.value,
+        &mut area[..room.size],
+    )
 }
 
 // Cost: one turn for each channel.

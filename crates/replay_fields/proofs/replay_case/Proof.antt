@@ -18,9 +18,6 @@ slice-aggregate-next-bytes-2 c = search needs
 next-bytes-requires-2 : tie.Need-next-bytes-requires-2
 next-bytes-requires-2 c κs = tt
 
-both-requires : tie.Need-both-requires
-both-requires c κs = tt
-
 stopped-requires : tie.Need-stopped-requires
 stopped-requires c κs = tt
 
@@ -50,7 +47,6 @@ replay-case-spec =
     next-bytes-requires
     slice-aggregate-next-bytes-2
     next-bytes-requires-2
-    both-requires
     stopped-requires
     returns
     array-share-prefix-input

@@ -1,6 +1,5 @@
 -- `replay_sums::replay_all` is safe and ends: the loop's test keeps the count of its turns below the largest number. Assumes nothing.
-use Prim.Native.Nat.{_-_, _^_}
-use native.Mathlib.Omega.{arith}
+use Prim.Native.Nat.{_^_, _-_}
 use borrow.Author.Needs.{needs}
 use Rattle.replay_sums.proofs.replay_all.Statement.{statement}
 use Rattle.replay_sums.proofs.replay_all.Tie as tie
@@ -20,44 +19,23 @@ loop-holds c = search needs
 next-block-requires : tie.Need-next-block-requires Inv-loop μ-loop
 next-block-requires c κs = search needs
 
-begun-requires : tie.Need-begun-requires Inv-loop μ-loop
-begun-requires c κs = search needs
-
-stopped-requires : tie.Need-stopped-requires Inv-loop μ-loop
-stopped-requires c κs = search needs
+replay-case-requires : tie.Need-replay-case-requires Inv-loop μ-loop
+replay-case-requires c κs = search needs
 
 returns : tie.Need-returns Inv-loop μ-loop
 returns c = search needs
 
-array-read-if2 : tie.Need-array-read-if2 Inv-loop μ-loop
-array-read-if2 c = search needs
-
-returns-2 : tie.Need-returns-2 Inv-loop μ-loop
-returns-2 c = search needs
-
-begun-requires-2 : tie.Need-begun-requires-2 Inv-loop μ-loop
-begun-requires-2 c κs = search needs
-
-array-read-replay-case : tie.Need-array-read-replay-case Inv-loop μ-loop
-array-read-replay-case c = search needs
-
-replay-case-requires : tie.Need-replay-case-requires Inv-loop μ-loop
-replay-case-requires c κs = search needs
-
-returns-3 : tie.Need-returns-3 Inv-loop μ-loop
-returns-3 c = search needs
-
 add-turn : tie.Need-add-turn Inv-loop μ-loop
-add-turn c = search (needs, c .before .before .before .before .before .before .before .before .before .before .loop-test .taken)
+add-turn c = search needs
 
 loop-less : tie.Need-loop-less Inv-loop μ-loop
-loop-less c = omega (arith, c .before .before .before .before .before .before .before .before .before .before .loop-test .taken)
+loop-less c = search needs
 
 loop-again : tie.Need-loop-again Inv-loop μ-loop
 loop-again c = search needs
 
-returns-4 : tie.Need-returns-4 Inv-loop μ-loop
-returns-4 c = search needs
+returns-2 : tie.Need-returns-2 Inv-loop μ-loop
+returns-2 c = search needs
 
 pub replay-all-spec : {M : Type 1} → statement M
 replay-all-spec =
@@ -68,16 +46,9 @@ replay-all-spec =
     new-requires
     loop-holds
     next-block-requires
-    begun-requires
-    stopped-requires
-    returns
-    array-read-if2
-    returns-2
-    begun-requires-2
-    array-read-replay-case
     replay-case-requires
-    returns-3
+    returns
     add-turn
     loop-less
     loop-again
-    returns-4)
+    returns-2)

@@ -17,20 +17,17 @@ abbrev μ-loop : tie.MeasureT-loop
 loop-holds : tie.Need-loop-holds Inv-loop μ-loop
 loop-holds c = search needs
 
-next-block-requires : tie.Need-next-block-requires Inv-loop μ-loop
-next-block-requires c κs = search needs
+next-number-requires : tie.Need-next-number-requires Inv-loop μ-loop
+next-number-requires c κs = search needs
 
-value-requires : tie.Need-value-requires Inv-loop μ-loop
-value-requires c κs = search needs
+from-bits-requires : tie.Need-from-bits-requires Inv-loop μ-loop
+from-bits-requires c κs = search needs
 
 mul-readings : tie.Need-mul-readings Inv-loop μ-loop
 mul-readings c = search needs
 
 array-write-readings : tie.Need-array-write-readings Inv-loop μ-loop
 array-write-readings c = search needs
-
-both-requires : tie.Need-both-requires Inv-loop μ-loop
-both-requires c κs = search needs
 
 add-i : tie.Need-add-i Inv-loop μ-loop
 add-i c = search needs
@@ -42,8 +39,7 @@ loop-again : tie.Need-loop-again Inv-loop μ-loop
 loop-again c = search needs
 
 returns : tie.Need-returns Inv-loop μ-loop
-returns c =
-    let fits : c .before .before .args .count ≤ length (c .before .loop .readings) = omega arith in
+returns c = let fits : c .before .before .args .count ≤ length (c .before .loop .readings) = omega arith in
     (fits, sym (length-take-le (c .before .before .args .count) (c .before .loop .readings) fits))
 
 pub next-readings-spec : {M : Type 1} → statement M
@@ -53,11 +49,10 @@ next-readings-spec =
     Inv-loop
     μ-loop
     loop-holds
-    next-block-requires
-    value-requires
+    next-number-requires
+    from-bits-requires
     mul-readings
     array-write-readings
-    both-requires
     add-i
     loop-less
     loop-again

@@ -24,9 +24,6 @@ slice-aggregate-read-full c = sym (length-take-le _ _ (omega arith))
 read-full-requires : tie.Need-read-full-requires
 read-full-requires c κs = tt
 
-both-requires : tie.Need-both-requires
-both-requires c κs = tt
-
 same-length : tie.Need-same-length
 same-length c = search needs
 
@@ -43,6 +40,5 @@ next-bytes-spec =
     slice-relend-prefix-read-full
     slice-aggregate-read-full
     read-full-requires
-    both-requires
     same-length
     returns-2)

@@ -6,13 +6,19 @@ use Rattle.replay_pelt.proofs.lent.first_float_unlike.Statement.{statem
 use Rattle.replay_pelt.proofs.lent.first_float_unlike.Tie as tie
 
 abbrev Inv-loop : tie.InvT-loop
-Inv-loop area cleared i₀ i = i ≤ length area
+Inv-loop area cleared place₀ place = place ≤ length area
 
 abbrev μ-loop : tie.MeasureT-loop
-μ-loop area cleared i₀ i = length area - i
+μ-loop area cleared place₀ place = length area - place
 
 loop-holds : tie.Need-loop-holds Inv-loop μ-loop
 loop-holds c = search needs
+
+float-left-requires : tie.Need-float-left-requires Inv-loop μ-loop
+float-left-requires c κs = search needs
+
+to-bits-requires : tie.Need-to-bits-requires Inv-loop μ-loop
+to-bits-requires c κs = search needs
 
 mul-to-bits : tie.Need-mul-to-bits Inv-loop μ-loop
 mul-to-bits c = search needs
@@ -20,17 +26,14 @@ mul-to-bits c = search needs
 shared-slice-read-to-bits : tie.Need-shared-slice-read-to-bits Inv-loop μ-loop
 shared-slice-read-to-bits c = search needs
 
-to-bits-requires : tie.Need-to-bits-requires Inv-loop μ-loop
-to-bits-requires c κs = search needs
-
-float-left-requires : tie.Need-float-left-requires Inv-loop μ-loop
-float-left-requires c κs = search needs
+to-bits-requires-2 : tie.Need-to-bits-requires-2 Inv-loop μ-loop
+to-bits-requires-2 c κs = search needs
 
 returns : tie.Need-returns Inv-loop μ-loop
 returns c = search needs
 
-add-i : tie.Need-add-i Inv-loop μ-loop
-add-i c = search needs
+add-place : tie.Need-add-place Inv-loop μ-loop
+add-place c = search needs
 
 loop-less : tie.Need-loop-less Inv-loop μ-loop
 loop-less c = search needs
@@ -48,12 +51,13 @@ first-float-unlike-spec =
     Inv-loop
     μ-loop
     loop-holds
+    float-left-requires
+    to-bits-requires
     mul-to-bits
     shared-slice-read-to-bits
-    to-bits-requires
-    float-left-requires
+    to-bits-requires-2
     returns
-    add-i
+    add-place
     loop-less
     loop-again
     returns-2)

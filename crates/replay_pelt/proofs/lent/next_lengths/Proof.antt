@@ -1,60 +1,69 @@
--- `replay_pelt::lent::next_lengths` is safe: what it fills is within the lengths. Assumes nothing.
-use mathlib.Core.Path.{sym}
+-- `replay_pelt::lent::next_lengths` is safe and ends: it fills no place twice. Assumes nothing.
+use mathlib.Core.Path.{_≡_}
+use Prim.Native.Nat.{_≤_, _-_}
 use native.Mathlib.Omega.{arith}
-use lib.Seq.{length-take-le}
+use lib.ListN.{length, length-set}
 use borrow.Author.Needs.{needs}
 use Rattle.replay_pelt.proofs.lent.next_lengths.Statement.{statement}
 use Rattle.replay_pelt.proofs.lent.next_lengths.Tie as tie
 
-next-block-requires : tie.Need-next-block-requires
-next-block-requires c κs = search needs
+abbrev Inv-loop : tie.InvT-loop
+Inv-loop lengths₀ count₀ channels i₀ lengths count i = (i ≤ length lengths) × (length lengths ≡ length lengths₀)
 
-number-requires : tie.Need-number-requires
-number-requires c κs = search needs
+abbrev μ-loop : tie.MeasureT-loop
+μ-loop lengths₀ count₀ channels i₀ lengths count i = length lengths - i
 
-stopped-requires : tie.Need-stopped-requires
-stopped-requires c κs = search needs
+next-number-requires : tie.Need-next-number-requires Inv-loop μ-loop
+next-number-requires c κs = search needs
 
-returns : tie.Need-returns
-returns c = search needs
+loop-holds : tie.Need-loop-holds Inv-loop μ-loop
+loop-holds c = search needs
 
-slice-relend-prefix-fill-lengths : tie.Need-slice-relend-prefix-fill-lengths
-slice-relend-prefix-fill-lengths c = search needs
-
-slice-aggregate-fill-lengths : tie.Need-slice-aggregate-fill-lengths
-slice-aggregate-fill-lengths c = sym (length-take-le _ _ (omega arith))
-
-fill-lengths-requires : tie.Need-fill-lengths-requires
-fill-lengths-requires c κs = search needs
-
-stopped-requires-2 : tie.Need-stopped-requires-2
-stopped-requires-2 c κs = search needs
-
-same-length : tie.Need-same-length
+same-length : tie.Need-same-length Inv-loop μ-loop
 same-length c = search needs
 
-returns-2 : tie.Need-returns-2
-returns-2 c = search needs
+returns : tie.Need-returns Inv-loop μ-loop
+returns c = search needs
 
-same-length-2 : tie.Need-same-length-2
+next-number-requires-2 : tie.Need-next-number-requires-2 Inv-loop μ-loop
+next-number-requires-2 c κs = search needs
+
+mul-lengths : tie.Need-mul-lengths Inv-loop μ-loop
+mul-lengths c = search needs
+
+slice-write-lengths : tie.Need-slice-write-lengths Inv-loop μ-loop
+slice-write-lengths c = search needs
+
+add-i : tie.Need-add-i Inv-loop μ-loop
+add-i c = search needs
+
+loop-less : tie.Need-loop-less Inv-loop μ-loop
+loop-less c = simp length-set (omega arith)
+
+loop-again : tie.Need-loop-again Inv-loop μ-loop
+loop-again c = (simp length-set (omega arith), simp length-set (omega arith))
+
+same-length-2 : tie.Need-same-length-2 Inv-loop μ-loop
 same-length-2 c = search needs
 
-returns-3 : tie.Need-returns-3
-returns-3 c = search needs
+returns-2 : tie.Need-returns-2 Inv-loop μ-loop
+returns-2 c = search needs
 
 pub next-lengths-spec : {M : Type 1} → statement M
 next-lengths-spec =
     tie.close
     (tie.spec
-    next-block-requires
-    number-requires
-    stopped-requires
-    returns
-    slice-relend-prefix-fill-lengths
-    slice-aggregate-fill-lengths
-    fill-lengths-requires
-    stopped-requires-2
+    Inv-loop
+    μ-loop
+    next-number-requires
+    loop-holds
     same-length
-    returns-2
+    returns
+    next-number-requires-2
+    mul-lengths
+    slice-write-lengths
+    add-i
+    loop-less
+    loop-again
     same-length-2
-    returns-3)
+    returns-2)

@@ -16,8 +16,8 @@ abbrev μ-loop : tie.MeasureT-loop
 loop-holds : tie.Need-loop-holds Inv-loop μ-loop
 loop-holds c = search needs
 
-unused-float-requires : tie.Need-unused-float-requires Inv-loop μ-loop
-unused-float-requires c κs = search needs
+float-left-requires : tie.Need-float-left-requires Inv-loop μ-loop
+float-left-requires c κs = search needs
 
 mul-area : tie.Need-mul-area Inv-loop μ-loop
 mul-area c = search needs
@@ -47,7 +47,7 @@ spoil-floats-spec =
     Inv-loop
     μ-loop
     loop-holds
-    unused-float-requires
+    float-left-requires
     mul-area
     slice-write-area
     add-i

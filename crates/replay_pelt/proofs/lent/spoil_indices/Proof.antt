@@ -16,8 +16,8 @@ abbrev μ-loop : tie.MeasureT-loop
 loop-holds : tie.Need-loop-holds Inv-loop μ-loop
 loop-holds c = search needs
 
-unused-index-requires : tie.Need-unused-index-requires Inv-loop μ-loop
-unused-index-requires c κs = search needs
+index-left-requires : tie.Need-index-left-requires Inv-loop μ-loop
+index-left-requires c κs = search needs
 
 mul-area : tie.Need-mul-area Inv-loop μ-loop
 mul-area c = search needs
@@ -47,7 +47,7 @@ spoil-indices-spec =
     Inv-loop
     μ-loop
     loop-holds
-    unused-index-requires
+    index-left-requires
     mul-area
     slice-write-area
     add-i

@@ -11,11 +11,11 @@ unused-requires c κs = search needs
 array-borrow-prefix-area : tie.Need-array-borrow-prefix-area
 array-borrow-prefix-area c = search needs
 
-slice-aggregate-match-sum-and-penalties : tie.Need-slice-aggregate-match-sum-and-penalties
-slice-aggregate-match-sum-and-penalties c = sym (length-take-le (c .before .before .before .args .room .size) _ (c .before .before .before .pre))
+slice-aggregate-match-sum : tie.Need-slice-aggregate-match-sum
+slice-aggregate-match-sum c = sym (length-take-le (c .before .before .before .args .room .size) _ (c .before .before .before .pre))
 
-match-sum-and-penalties-requires : tie.Need-match-sum-and-penalties-requires
-match-sum-and-penalties-requires c κs = search needs
+match-sum-requires : tie.Need-match-sum-requires
+match-sum-requires c κs = search needs
 
 returns : tie.Need-returns
 returns c = search needs
@@ -23,4 +23,4 @@ returns c = search needs
 pub lend-for-sum-spec : {M : Type 1} → statement M
 lend-for-sum-spec =
     tie.close
-    (tie.spec unused-requires array-borrow-prefix-area slice-aggregate-match-sum-and-penalties match-sum-and-penalties-requires returns)
+    (tie.spec unused-requires array-borrow-prefix-area slice-aggregate-match-sum match-sum-requires returns)

@@ -14,14 +14,23 @@ abbrev μ-loop : tie.MeasureT-loop
 loop-holds : tie.Need-loop-holds Inv-loop μ-loop
 loop-holds c = search needs
 
-mul-match-place : tie.Need-mul-match-place Inv-loop μ-loop
-mul-match-place c = search needs
+left-at-requires : tie.Need-left-at-requires Inv-loop μ-loop
+left-at-requires c κs = search needs
 
-shared-slice-read-match-place : tie.Need-shared-slice-read-match-place Inv-loop μ-loop
-shared-slice-read-match-place c = search needs
+mul-to-bits : tie.Need-mul-to-bits Inv-loop μ-loop
+mul-to-bits c = search needs
 
-match-place-requires : tie.Need-match-place-requires Inv-loop μ-loop
-match-place-requires c κs = search needs
+shared-slice-read-to-bits : tie.Need-shared-slice-read-to-bits Inv-loop μ-loop
+shared-slice-read-to-bits c = search needs
+
+to-bits-requires : tie.Need-to-bits-requires Inv-loop μ-loop
+to-bits-requires c κs = search needs
+
+matched-requires : tie.Need-matched-requires Inv-loop μ-loop
+matched-requires c κs = search needs
+
+counted-requires : tie.Need-counted-requires Inv-loop μ-loop
+counted-requires c κs = search needs
 
 add-i : tie.Need-add-i Inv-loop μ-loop
 add-i c = search needs
@@ -42,9 +51,12 @@ match-places-spec =
     Inv-loop
     μ-loop
     loop-holds
-    mul-match-place
-    shared-slice-read-match-place
-    match-place-requires
+    left-at-requires
+    mul-to-bits
+    shared-slice-read-to-bits
+    to-bits-requires
+    matched-requires
+    counted-requires
     add-i
     loop-less
     loop-again

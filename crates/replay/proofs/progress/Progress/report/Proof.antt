@@ -1,20 +1,17 @@
--- `replay_fields::state::State::report` is safe and ends: it prints each kind once. Assumes nothing.
+-- `replay::progress::Progress::report` is safe and ends: it prints each kind once. Assumes nothing.
 use Prim.Native.Nat.{_-_}
 use borrow.Author.Needs.{needs}
-use Rattle.replay_fields.proofs.state.State.report.Statement.{statement}
-use Rattle.replay_fields.proofs.state.State.report.Tie as tie
+use Rattle.replay.proofs.progress.Progress.report.Statement.{statement}
+use Rattle.replay.proofs.progress.Progress.report.Tie as tie
 
 abbrev Inv-loop : tie.InvT-loop
 Inv-loop self kind₀ kind = Unit {0}
 
 abbrev μ-loop : tie.MeasureT-loop
-μ-loop self kind₀ kind = 13 - kind
-
-report-all-requires : tie.Need-report-all-requires Inv-loop μ-loop
-report-all-requires c κs = tt
+μ-loop self kind₀ kind = 24 - kind
 
 loop-holds : tie.Need-loop-holds Inv-loop μ-loop
-loop-holds c = tt
+loop-holds c = search needs
 
 mul-report-kind : tie.Need-mul-report-kind Inv-loop μ-loop
 mul-report-kind c = search needs
@@ -29,7 +26,7 @@ element-copy-out-report-kind-2 : tie.Need-element-copy-out-report-kind-2 Inv-loo
 element-copy-out-report-kind-2 c = search needs
 
 report-kind-requires : tie.Need-report-kind-requires Inv-loop μ-loop
-report-kind-requires c κs = tt
+report-kind-requires c κs = search needs
 
 add-kind : tie.Need-add-kind Inv-loop μ-loop
 add-kind c = search needs
@@ -38,10 +35,10 @@ loop-less : tie.Need-loop-less Inv-loop μ-loop
 loop-less c = search needs
 
 loop-again : tie.Need-loop-again Inv-loop μ-loop
-loop-again c = tt
+loop-again c = search needs
 
 returns : tie.Need-returns Inv-loop μ-loop
-returns c = tt
+returns c = search needs
 
 pub report-spec : {M : Type 1} → statement M
 report-spec =
@@ -49,7 +46,6 @@ report-spec =
     (tie.spec
     Inv-loop
     μ-loop
-    report-all-requires
     loop-holds
     mul-report-kind
     element-copy-out-report-kind
