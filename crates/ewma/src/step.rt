@@ -16,10 +16,10 @@ fn accepted(chart: Ewma) -> bool
     ensures { λ r. ⌜ r ≡ accepted chart ⌝ }
 {
     let target = floats::finite(chart.target);
-    let sigma = charts::both(floats::finite(chart.sigma), 0.0 < chart.sigma);
-    let lambda = charts::both(0.0 < chart.lambda, chart.lambda <= 1.0);
-    let l_factor = charts::both(floats::finite(chart.l_factor), 0.0 < chart.l_factor);
-    charts::both(charts::both(charts::both(target, sigma), lambda), l_factor)
+    let sigma = floats::finite(chart.sigma) & (0.0 < chart.sigma);
+    let lambda = (0.0 < chart.lambda) & (chart.lambda <= 1.0);
+    let l_factor = floats::finite(chart.l_factor) & (0.0 < chart.l_factor);
+    target & sigma & lambda & l_factor
 }
 
 // What a call answers, for so many readings and room for so many results.
@@ -70,7 +70,7 @@ pub(crate) fn step_by(
     let lcl = chart.target - half_width;
     if floats::finite(x) {
         let ewma = chart.lambda * x + (1.0 - chart.lambda) * before.ewma;
-        let signal = charts::either(ucl < ewma, ewma < lcl);
+        let signal = (ucl < ewma) | (ewma < lcl);
         EwmaResult {
             ewma,
             ucl,
