@@ -14,11 +14,9 @@ use charts::Charted;
 use charts::Observation;
 use charts::Signalled;
 use points::mark;
-pub use resting::followed_by;
-use resting::next_paced;
-pub use resting::settles;
-use resting::start_paced;
+pub use step::following;
 pub use step::judge;
+use step::next;
 pub use step::start;
 
 pub struct Ewma {
@@ -38,21 +36,16 @@ pub struct EwmaResult {
     pub index: Observation,
 }
 
-// What goes from reading to reading: nothing beside the last record.
-pub struct State {
-    pub shown: EwmaResult,
-}
-
 // The place from which on the limits stay, and how far from the target.
 pub struct Settled {
     pub from: usize,
     pub half_width: f64,
 }
 
-// What goes from reading to reading in `analyze`: the last record, and where the limits settle.
-pub(crate) struct Paced {
-    pub(crate) shown: EwmaResult,
-    pub(crate) settled: Settled,
+// What goes from reading to reading: the last record, and where the limits settle.
+pub struct State {
+    pub shown: EwmaResult,
+    pub settled: Settled,
 }
 
 impl Ewma {
@@ -86,11 +79,11 @@ impl Ewma {
     {
         let answer = judge(self, data.len(), records.len());
         let n = charts::count(answer);
-        let mut paced = start_paced(self);
+        let mut state = start(self);
         let mut i = 0;
         while i < n {
-            paced = next_paced(self, data, i, paced);
-            records[i] = paced.shown;
+            state = next(self, data, i, state);
+            records[i] = state.shown;
             i += 1;
         }
         answer

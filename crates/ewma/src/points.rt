@@ -4,8 +4,7 @@ ghost use lib.ListN.{length};
 ghost use Rattle.charts.specs.Contracts.{Stands};
 ghost use Rattle.ewma.specs.Chart.{signalling};
 use crate::Ewma;
-use crate::resting::next_by;
-use crate::resting::settles;
+use crate::step::next;
 use crate::step::start;
 
 // Writes those among the first n to the front of `points`, and says how many there are. Cost: n steps.
@@ -13,12 +12,11 @@ pub(crate) fn mark(chart: Ewma, data: &[f64], n: usize, points: &mut [usize]) ->
     requires { ⌜ (n ≤ length (now «data»)) × (n ≤ length (now points)) × (n ≤ 4096) ⌝ }
     ensures { λ r. ⌜ Stands (signalling chart (now («data» .entry)) n) (now (points .entry)) r (now (points .exit)) ⌝ }
 {
-    let settled = settles(chart);
     let mut state = start(chart);
     let mut count = 0;
     let mut i = 0;
     while i < n {
-        state = next_by(chart, settled, data, i, state);
+        state = next(chart, data, i, state);
         let shown = state.shown;
         count = charts::note(shown.signal, i, count, points);
         i += 1;

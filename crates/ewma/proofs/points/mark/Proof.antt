@@ -1,5 +1,5 @@
--- `ewma::points::mark` meets its contract: the loop of `signal_points` for any chart. Assumes nothing.
-use mathlib.Core.Path.{_≡_, _∙_}
+-- `ewma::points::mark` meets its contract: the loop of `signal_points` for any chart, by the records that the states show. Assumes nothing.
+use mathlib.Core.Path.{_≡_, refl, ap}
 use Prim.Native.Nat.{_-_}
 use native.Mathlib.Omega.{arith}
 use borrow.Author.Needs.{needs}
@@ -7,28 +7,27 @@ use lib.ListN.{getD}
 use lib.Ieee.{nan}
 use denote.Ref.{now}
 use Rattle.charts.proofs.Loops.{Marking, none-marked, marked-length, all-marked, one-more}
-use Rattle.ewma.specs.Chart.{shownOf, startState, nextState, signalOf}
+use Rattle.ewma.specs.declared.State.{State}
+use Rattle.ewma.specs.Chart.{fresh, itself, nextRecord, signalOf}
+use Rattle.ewma.specs.Settled.{settledOf}
 use Rattle.ewma.proofs.AtRest.{next-settles}
 use Rattle.ewma.proofs.points.mark.Statement.{statement}
 use Rattle.ewma.proofs.points.mark.Tie as tie
 
 abbrev Inv-loop : tie.InvT-loop
-Inv-loop chart «data» n points₀ settled state₀ count₀ i₀ points state count i = Marking shownOf startState nextState signalOf chart «data» n points₀ state count i points
+Inv-loop chart «data» n points₀ state₀ count₀ i₀ points state count i = Marking itself fresh nextRecord signalOf chart «data» n points₀ (state .shown) count i points × (state .settled ≡ settledOf chart)
 
 abbrev μ-loop : tie.MeasureT-loop
-μ-loop chart «data» n points₀ settled state₀ count₀ i₀ points state count i = n - i
-
-settles-requires : tie.Need-settles-requires Inv-loop μ-loop
-settles-requires c κs = tt
+μ-loop chart «data» n points₀ state₀ count₀ i₀ points state count i = n - i
 
 start-requires : tie.Need-start-requires Inv-loop μ-loop
-start-requires c κs = search needs
+start-requires c κs = tt
 
 loop-holds : tie.Need-loop-holds Inv-loop μ-loop
-loop-holds c = rw (c .start .ensures) (none-marked shownOf startState nextState signalOf _ _ _ _)
+loop-holds c = rw (c .start .ensures) (none-marked itself fresh nextRecord signalOf _ _ _ _, refl)
 
-next-by-requires : tie.Need-next-by-requires Inv-loop μ-loop
-next-by-requires c κs = search needs
+next-requires : tie.Need-next-requires Inv-loop μ-loop
+next-requires c κs = search needs
 
 note-requires : tie.Need-note-requires Inv-loop μ-loop
 note-requires c κs = search needs
@@ -39,22 +38,25 @@ add-i c = search needs
 loop-less : tie.Need-loop-less Inv-loop μ-loop
 loop-less c = search needs
 
--- the state moves on as the chart's own
-moves : (c : tie.After-next-by Inv-loop μ-loop) → let at = c .before .before in let a = at .before .before .before .before .before .args in
-    c .next-by .result ≡ nextState (a .chart) (at .loop .state) (at .loop .i) (getD (now (a .«data»)) (at .loop .i) nan)
+-- the state moves on as the chart's records do
+moves : (c : tie.After-next Inv-loop μ-loop) → let at = c .before .before in let a = at .before .before .before .before .args in
+    c .next .result ≡ record { shown = nextRecord (a .chart) (at .loop .state .shown) (at .loop .i) (getD (now (a .«data»)) (at .loop .i) nan); settled = settledOf (a .chart) }
 moves c =
     let at = c .before .before in
-    let a = at .before .before .before .before .before .args in
-    c .next-by .ensures ∙ next-settles (a .chart) (at .before .before .settles .result) (at .loop .state) (at .loop .i) (getD (now (a .«data»)) (at .loop .i) nan) (at .before .before .settles .ensures) (omega (arith, c .before .loop-test .taken, at .before .before .before .before .before .pre .2))
+    let a = at .before .before .before .before .args in
+    rw (c .next .ensures) (next-settles (a .chart) (at .loop .state) (at .loop .i) (at .loop .inv .1) (omega (arith, c .before .loop-test .taken, at .before .before .before .before .pre .2)) (getD (now (a .«data»)) (at .loop .i) nan))
 
 loop-again : tie.Need-loop-again Inv-loop μ-loop
-loop-again c = one-more shownOf startState nextState signalOf _ _ _ _ _ _ _ _ (c .before .before .before .before .before .before .before .loop .inv) (c .before .before .before .before .before .before .before .before .before .before .before .before .pre .1) _ _ _ (c .before .before .before .before .before .before .loop-test .taken) (moves (c .before .before .before .before .before)) (c .before .before .note .ensures)
+loop-again c =
+    let m = moves (c .before .before .before .before .before) in
+    let at = c .before .before .before .before .before .before .before in
+    (one-more itself fresh nextRecord signalOf _ _ _ _ _ _ _ _ (at .loop .inv .0) (at .before .before .before .before .pre .1) _ _ _ (c .before .before .before .before .before .before .loop-test .taken) (ap (λ (s : State). s .shown) m) (c .before .before .note .ensures), ap (λ (s : State). s .settled) m)
 
 same-length : tie.Need-same-length Inv-loop μ-loop
-same-length c = marked-length shownOf startState nextState signalOf _ _ _ _ _ _ _ _ (c .before .loop .inv) (c .before .before .before .before .before .before .pre .1)
+same-length c = marked-length itself fresh nextRecord signalOf _ _ _ _ _ _ _ _ (c .before .loop .inv .0) (c .before .before .before .before .before .pre .1)
 
 returns : tie.Need-returns Inv-loop μ-loop
-returns c = all-marked shownOf startState nextState signalOf _ _ _ _ _ _ _ _ (c .before .loop .inv) (c .before .before .before .before .before .before .pre .1) (omega arith)
+returns c = all-marked itself fresh nextRecord signalOf _ _ _ _ _ _ _ _ (c .before .loop .inv .0) (c .before .before .before .before .before .pre .1) (c .loop-test .left)
 
 pub mark-spec : {M : Type 1} → statement M
-mark-spec = tie.close (tie.spec Inv-loop μ-loop settles-requires start-requires loop-holds next-by-requires note-requires add-i loop-less loop-again same-length returns)
+mark-spec = tie.close (tie.spec Inv-loop μ-loop start-requires loop-holds next-requires note-requires add-i loop-less loop-again same-length returns)
