@@ -167,7 +167,7 @@ width-settles c place low high = by-place (leb (settledFrom 13 1 (kept *ᶠ kept
 -- ---- a run
 -- a state that has where the limits of the chart settle moves on as the chart's records do
 module _ (c : Ewma) (s : State) (i : ℕ) (e : s .settled ≡ settledOf c) (h : i < 4096) where
-  pub next-settles : (x : Float) → nextState c s i x ≡ record { shown = nextRecord c (s .shown) i x; settled = settledOf c }
+  next-settles : (x : Float) → nextState c s i x ≡ record { shown = nextRecord c (s .shown) i x; settled = settledOf c }
   unfolding stepBy stepOf
   next-settles x =
       ap (λ (w : Settled). nextState c (record { shown = s .shown; settled = w }) i x) e
@@ -182,7 +182,7 @@ module _ (c : Ewma) (s : State) (i : ℕ) (e : s .settled ≡ settledOf c) (h : 
 
 -- so that a run of states shows the chart's own records
 module _ (c : Ewma) (xs : List Float) where
-  state-settles : (n : ℕ) → n ≤ 4096 → stateAt shownOf startState nextState c xs n ≡ record { shown = stateAt itself fresh nextRecord c xs n; settled = settledOf c }
+  pub state-settles : (n : ℕ) → n ≤ 4096 → stateAt shownOf startState nextState c xs n ≡ record { shown = stateAt itself fresh nextRecord c xs n; settled = settledOf c }
   state-settles zero h = refl
   state-settles (suc n) h =
       let s : State = record { shown = stateAt itself fresh nextRecord c xs n; settled = settledOf c } in

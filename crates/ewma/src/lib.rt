@@ -16,7 +16,6 @@ use charts::Signalled;
 use points::mark;
 pub use step::following;
 pub use step::judge;
-use step::next;
 pub use step::start;
 
 pub struct Ewma {
@@ -82,7 +81,7 @@ impl Ewma {
         let mut state = start(self);
         let mut i = 0;
         while i < n {
-            state = next(self, data, i, state);
+            state = following(self, data, i, state);
             records[i] = state.shown;
             i += 1;
         }

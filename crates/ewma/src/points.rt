@@ -4,7 +4,7 @@ ghost use lib.ListN.{length};
 ghost use Rattle.charts.specs.Contracts.{Stands};
 ghost use Rattle.ewma.specs.Chart.{signalling};
 use crate::Ewma;
-use crate::step::next;
+use crate::step::following;
 use crate::step::start;
 
 // Writes those among the first n to the front of `points`, and says how many there are. Cost: n steps.
@@ -16,7 +16,7 @@ pub(crate) fn mark(chart: Ewma, data: &[f64], n: usize, points: &mut [usize]) ->
     let mut count = 0;
     let mut i = 0;
     while i < n {
-        state = next(chart, data, i, state);
+        state = following(chart, data, i, state);
         let shown = state.shown;
         count = charts::note(shown.signal, i, count, points);
         i += 1;

@@ -1,11 +1,8 @@
 // The settings of a chart, one reading's record, and the states of a run.
 ghost use mathlib.Core.Path.{_≡_};
-ghost use Prim.Native.Nat.{_<_};
-ghost use lib.ListN.{length, getD};
-ghost use lib.Ieee.{nan};
 ghost use Rattle.charts.specs.Answers.{admittedAs};
 ghost use Rattle.ewma.specs.Chart.{accepted};
-ghost use Rattle.ewma.specs.Settled.{stepBy, startState, nextState, followingState};
+ghost use Rattle.ewma.specs.Settled.{stepBy, startState, followingState};
 use crate::Ewma;
 use crate::EwmaResult;
 use crate::Settled;
@@ -90,27 +87,19 @@ pub fn start(chart: Ewma) -> State
     State { shown, settled }
 }
 
-// The state after the reading at i.
-pub(crate) fn next(chart: Ewma, data: &[f64], i: usize, state: State) -> State
-    requires { ⌜ i < length (now «data») ⌝ }
-    ensures { λ r. ⌜ r ≡ nextState chart state i (getD (now («data» .entry)) i nan) ⌝ }
-{
-    let before = state.shown;
-    let settled = state.settled;
-    let half_width = width_from(chart, settled, Place(i + 1));
-    let after = step_by(chart, half_width, before, Observation(i), data[i]);
-    State {
-        shown: after,
-        settled,
-    }
-}
-
 // The state after the reading at i, and the same state where there is no such reading.
 pub fn following(chart: Ewma, data: &[f64], i: usize, state: State) -> State
     ensures { λ r. ⌜ r ≡ followingState chart (now («data» .entry)) i state ⌝ }
 {
     if i < data.len() {
-        return next(chart, data, i, state);
+        let before = state.shown;
+        let settled = state.settled;
+        let half_width = width_from(chart, settled, Place(i + 1));
+        let after = step_by(chart, half_width, before, Observation(i), data[i]);
+        return State {
+            shown: after,
+            settled,
+        };
     }
     state
 }
