@@ -4,7 +4,6 @@
 //
 // Every call ends with an answer or a refusal, and asks nothing of its caller: settings are checked
 // when they are used. `specs/Chart` has the recurrences that the records equal.
-mod points;
 mod resting;
 mod step;
 
@@ -13,7 +12,6 @@ ghost use Rattle.ewma.specs.Chart.{newOf, withParams, Analyzed, Marked};
 use charts::Charted;
 use charts::Observation;
 use charts::Signalled;
-use points::mark;
 pub use step::following;
 pub use step::judge;
 pub use step::start;
@@ -95,7 +93,16 @@ impl Ewma {
         ensures { λ r. ⌜ Marked self (now («data» .entry)) (now (points .entry)) r (now (points .exit)) ⌝ }
     {
         let answer = judge(self, data.len(), points.len());
-        let count = mark(self, data, charts::count(answer), points);
+        let n = charts::count(answer);
+        let mut state = start(self);
+        let mut count = 0;
+        let mut i = 0;
+        while i < n {
+            state = following(self, data, i, state);
+            let shown = state.shown;
+            count = charts::note(shown.signal, i, count, points);
+            i += 1;
+        }
         charts::marked(answer, count)
     }
 }
