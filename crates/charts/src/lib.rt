@@ -4,7 +4,6 @@
 //
 // No function asks anything of its caller. A chart's refusals are 11, 6 and 7, tried in that order.
 ghost use mathlib.Core.Path.{_≡_};
-ghost use mathlib.Core.Bool.{_&&_, _||_};
 ghost use Rattle.charts.specs.Answers.{admittedAs, countOf, signalledAs};
 ghost use Rattle.charts.specs.Contracts.{Noted};
 use refusals::Refusal;
@@ -25,18 +24,6 @@ pub enum Charted {
 pub enum Signalled {
     Points(usize),
     Refused(Refusal),
-}
-
-pub fn both(a: bool, b: bool) -> bool
-    ensures { λ r. ⌜ r ≡ a && b ⌝ }
-{
-    if a { b } else { false }
-}
-
-pub fn either(a: bool, b: bool) -> bool
-    ensures { λ r. ⌜ r ≡ a || b ⌝ }
-{
-    if a { true } else { b }
 }
 
 // How many records an answer stands for.

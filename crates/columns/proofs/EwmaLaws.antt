@@ -7,10 +7,11 @@ use native.Mathlib.Omega.{arith}
 use lib.ListN.{length, set}
 use lib.Ieee.{Float, nan}
 use Rattle.charts.proofs.Answers.{within-both}
+use Rattle.walks.specs.Runs.{following}
 use Rattle.walks.proofs.Columns.{Going, filled-length, one-gone, one-filled, all-filled}
 use Rattle.ewma.specs.declared.Ewma.{Ewma}
-use Rattle.ewma.specs.declared.State.{State}
-use Rattle.ewma.specs.Chart.{shownOf, startState, nextState, followingState}
+use Rattle.ewma.specs.declared.EwmaResult.{EwmaResult}
+use Rattle.ewma.specs.Chart.{fresh, itself, nextRecord}
 use Rattle.columns.specs.Columns.{shorter, writtenRecords}
 use Rattle.columns.specs.EwmaColumns.{ewmaOf, uclOf, lclOf, signalOf, indexOf, Filled, roomOf}
 use Rattle.columns.proofs.Lengths.{shorter-least, shortest-least}
@@ -31,42 +32,42 @@ written-room ok n ewma ucl lcl signal index =
     let s = shortest-least (shorter (length ewma) (length ucl)) (length lcl) (length signal) (length index) in
     (k .0, record { ewma-room = omega (arith, k .1, s .0, h .0); ucl-room = omega (arith, k .1, s .0, h .1); lcl-room = omega (arith, k .1, s .1); signal-room = omega (arith, k .1, s .2); index-room = omega (arith, k .1, s .3) })
 
-module _ {c : Ewma} {xs : List Float} {n i : ℕ} {ewma ewma′ ucl ucl′ lcl lcl′ : List Float} {signal signal′ index index′ : List ℕ} {s : State}
-    (room : Room n ewma ucl lcl signal index) (g : Going shownOf startState nextState c xs n s i) (f : Filled c xs i ewma ewma′ ucl ucl′ lcl lcl′ signal signal′ index index′) where
+module _ {c : Ewma} {xs : List Float} {n i : ℕ} {ewma ewma′ ucl ucl′ lcl lcl′ : List Float} {signal signal′ index index′ : List ℕ} {s : EwmaResult}
+    (room : Room n ewma ucl lcl signal index) (g : Going itself fresh nextRecord c xs n s i) (f : Filled c xs i ewma ewma′ ucl ucl′ lcl lcl′ signal signal′ index index′) where
   pub ewma-length : length ewma′ ≡ length ewma
-  ewma-length = filled-length shownOf startState nextState c xs n ewmaOf i ewma ewma′ (g .within) (room .ewma-room) (f .ewma-left)
+  ewma-length = filled-length itself fresh nextRecord c xs n ewmaOf i ewma ewma′ (g .within) (room .ewma-room) (f .ewma-left)
 
   pub ucl-length : length ucl′ ≡ length ucl
-  ucl-length = filled-length shownOf startState nextState c xs n uclOf i ucl ucl′ (g .within) (room .ucl-room) (f .ucl-left)
+  ucl-length = filled-length itself fresh nextRecord c xs n uclOf i ucl ucl′ (g .within) (room .ucl-room) (f .ucl-left)
 
   pub lcl-length : length lcl′ ≡ length lcl
-  lcl-length = filled-length shownOf startState nextState c xs n lclOf i lcl lcl′ (g .within) (room .lcl-room) (f .lcl-left)
+  lcl-length = filled-length itself fresh nextRecord c xs n lclOf i lcl lcl′ (g .within) (room .lcl-room) (f .lcl-left)
 
   pub signal-length : length signal′ ≡ length signal
-  signal-length = filled-length shownOf startState nextState c xs n signalOf i signal signal′ (g .within) (room .signal-room) (f .signal-left)
+  signal-length = filled-length itself fresh nextRecord c xs n signalOf i signal signal′ (g .within) (room .signal-room) (f .signal-left)
 
   pub index-length : length index′ ≡ length index
-  index-length = filled-length shownOf startState nextState c xs n indexOf i index index′ (g .within) (room .index-room) (f .index-left)
+  index-length = filled-length itself fresh nextRecord c xs n indexOf i index index′ (g .within) (room .index-room) (f .index-left)
 
   pub all-done : n ≤ i → Filled c xs n ewma ewma′ ucl ucl′ lcl lcl′ signal signal′ index index′
   all-done h =
       record {
-        ewma-left = all-filled shownOf startState nextState c xs n ewmaOf ewma ewma′ s i g h (f .ewma-left);
-        ucl-left = all-filled shownOf startState nextState c xs n uclOf ucl ucl′ s i g h (f .ucl-left);
-        lcl-left = all-filled shownOf startState nextState c xs n lclOf lcl lcl′ s i g h (f .lcl-left);
-        signal-left = all-filled shownOf startState nextState c xs n signalOf signal signal′ s i g h (f .signal-left);
-        index-left = all-filled shownOf startState nextState c xs n indexOf index index′ s i g h (f .index-left);
+        ewma-left = all-filled itself fresh nextRecord c xs n ewmaOf ewma ewma′ s i g h (f .ewma-left);
+        ucl-left = all-filled itself fresh nextRecord c xs n uclOf ucl ucl′ s i g h (f .ucl-left);
+        lcl-left = all-filled itself fresh nextRecord c xs n lclOf lcl lcl′ s i g h (f .lcl-left);
+        signal-left = all-filled itself fresh nextRecord c xs n signalOf signal signal′ s i g h (f .signal-left);
+        index-left = all-filled itself fresh nextRecord c xs n indexOf index index′ s i g h (f .index-left);
       }
 
-  pub one-more : (readings : n ≤ length xs) (below : i < n) (s′ : State) → s′ ≡ followingState c xs i s
-      → Going shownOf startState nextState c xs n s′ (i + 1) × Filled c xs (i + 1) ewma (set ewma′ i (ewmaOf (s′ .shown))) ucl (set ucl′ i (uclOf (s′ .shown))) lcl (set lcl′ i (lclOf (s′ .shown))) signal (set signal′ i (signalOf (s′ .shown))) index (set index′ i (indexOf (s′ .shown)))
+  pub one-more : (readings : n ≤ length xs) (below : i < n) (s′ : EwmaResult) → s′ ≡ following nextRecord c xs i s
+      → Going itself fresh nextRecord c xs n s′ (i + 1) × Filled c xs (i + 1) ewma (set ewma′ i (ewmaOf s′)) ucl (set ucl′ i (uclOf s′)) lcl (set lcl′ i (lclOf s′)) signal (set signal′ i (signalOf s′)) index (set index′ i (indexOf s′))
   one-more readings below s′ e = (
-    one-gone shownOf startState nextState c xs n s i g s′ readings below e,
+    one-gone itself fresh nextRecord c xs n s i g s′ readings below e,
     record {
-      ewma-left = one-filled shownOf startState nextState c xs n s i g s′ readings below e ewmaOf nan ewma ewma′ (room .ewma-room) (f .ewma-left);
-      ucl-left = one-filled shownOf startState nextState c xs n s i g s′ readings below e uclOf nan ucl ucl′ (room .ucl-room) (f .ucl-left);
-      lcl-left = one-filled shownOf startState nextState c xs n s i g s′ readings below e lclOf nan lcl lcl′ (room .lcl-room) (f .lcl-left);
-      signal-left = one-filled shownOf startState nextState c xs n s i g s′ readings below e signalOf 0 signal signal′ (room .signal-room) (f .signal-left);
-      index-left = one-filled shownOf startState nextState c xs n s i g s′ readings below e indexOf 0 index index′ (room .index-room) (f .index-left);
+      ewma-left = one-filled itself fresh nextRecord c xs n s i g s′ readings below e ewmaOf nan ewma ewma′ (room .ewma-room) (f .ewma-left);
+      ucl-left = one-filled itself fresh nextRecord c xs n s i g s′ readings below e uclOf nan ucl ucl′ (room .ucl-room) (f .ucl-left);
+      lcl-left = one-filled itself fresh nextRecord c xs n s i g s′ readings below e lclOf nan lcl lcl′ (room .lcl-room) (f .lcl-left);
+      signal-left = one-filled itself fresh nextRecord c xs n s i g s′ readings below e signalOf 0 signal signal′ (room .signal-room) (f .signal-left);
+      index-left = one-filled itself fresh nextRecord c xs n s i g s′ readings below e indexOf 0 index index′ (room .index-room) (f .index-left);
     },
   )

@@ -27,11 +27,10 @@ pub fn ewma_analyze(
     );
     let answer = ewma::judge(chart, data.len(), room);
     let n = charts::count(answer);
-    let settled = ewma::settles(chart);
     let mut state = ewma::start(chart);
     let mut i = 0;
     while i < n {
-        state = ewma::followed_by(chart, settled, data, i, state);
+        state = ewma::following(chart, data, i, state);
         let shown = state.shown;
         let at = shown.index;
         ewma[i] = shown.ewma;

@@ -6,7 +6,6 @@
 // when they are used. `specs/Chart` has the recurrences that the records equal, and
 // `proofs/Promise` the promise that a lasting shift is signalled.
 mod listen;
-mod points;
 mod step;
 
 ghost use mathlib.Core.Path.{_≡_};
@@ -16,7 +15,6 @@ use charts::Charted;
 use charts::Observation;
 use charts::Signalled;
 use listen::listen;
-use points::mark;
 use refusals::Refusal;
 use step::accepted;
 pub use step::following;
@@ -105,7 +103,16 @@ impl Cusum {
         ensures { λ r. ⌜ Marked self (now («data» .entry)) (now (points .entry)) r (now (points .exit)) ⌝ }
     {
         let answer = judge(self, data.len(), points.len());
-        let count = mark(self, data, charts::count(answer), points);
+        let n = charts::count(answer);
+        let mut state = start(self);
+        let mut count = 0;
+        let mut i = 0;
+        while i < n {
+            state = next(self, data, i, state);
+            let shown = state.shown;
+            count = charts::note(shown.signal, i, count, points);
+            i += 1;
+        }
         charts::marked(answer, count)
     }
 

@@ -19,10 +19,10 @@ pub(crate) fn accepted(chart: Cusum) -> bool
     ensures { λ r. ⌜ r ≡ accepted chart ⌝ }
 {
     let target = floats::finite(chart.target);
-    let sigma = charts::both(floats::finite(chart.sigma), 0.0 < chart.sigma);
-    let k = charts::both(floats::finite(chart.k), 0.0 <= chart.k);
-    let h = charts::both(floats::finite(chart.h), 0.0 < chart.h);
-    charts::both(charts::both(charts::both(target, sigma), k), h)
+    let sigma = floats::finite(chart.sigma) & (0.0 < chart.sigma);
+    let k = floats::finite(chart.k) & (0.0 <= chart.k);
+    let h = floats::finite(chart.h) & (0.0 < chart.h);
+    target & sigma & k & h
 }
 
 // What a call answers, for so many readings and room for so many results.
@@ -57,10 +57,10 @@ fn moved(chart: Cusum, before: CusumResult, index: Observation, z: f64) -> Cusum
 {
     let upper = before.s_upper + z;
     let lower = before.s_lower - z;
-    if charts::both(0.0 < chart.k, 0.0 < chart.h) {
+    if (0.0 < chart.k) & (0.0 < chart.h) {
         let s_upper = less(upper, chart.k);
         let s_lower = less(lower, chart.k);
-        let signal = charts::either(chart.h < s_upper, above(chart.h, s_lower));
+        let signal = (chart.h < s_upper) | above(chart.h, s_lower);
         return CusumResult {
             s_upper,
             s_lower,
@@ -70,7 +70,7 @@ fn moved(chart: Cusum, before: CusumResult, index: Observation, z: f64) -> Cusum
     }
     let s_upper = floats::max(upper - chart.k, 0.0);
     let s_lower = floats::max(lower - chart.k, 0.0);
-    let signal = charts::either(chart.h < s_upper, chart.h < s_lower);
+    let signal = (chart.h < s_upper) | (chart.h < s_lower);
     CusumResult {
         s_upper,
         s_lower,

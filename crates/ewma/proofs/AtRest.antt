@@ -1,19 +1,22 @@
--- The limits stay from the place on that `settles` finds: a run by it is the chart's own. Assumes nothing.
-use mathlib.Core.Path.{_≡_, refl, sym, ap, _∙_}
-use Prim.Native.Nat.{ℕ, zero, suc, _*_, _/_, _%_, _^_, _≤_, _<_}
-use native.Mathlib.Nat.{mul-pos, pow-suc}
+-- The limits stay from the place on that `start` finds: a run of states by it shows the chart's own records. Assumes nothing.
+use mathlib.Core.Path.{_≡_, refl, sym, ap, subst, _∙_}
+use Prim.Native.Nat.{ℕ, zero, suc, _+_, _*_, _/_, _%_, _^_, _≤_, _<_}
+use native.Mathlib.Nat.{mul-le-mul, mul-pos, pow-suc}
 use native.Mathlib.Omega.{arith}
-use mathlib.Core.Bool.{Bool, true, false, cond}
+use mathlib.Core.Bool.{Bool, true, false, not, cond, true≢false}
 use mathlib.Core.List.{List}
 use borrow.Author.Tests.{leb-true}
 use lib.IntN.{pos}
-use lib.Dec.{T, leb, ltb}
+use lib.Dec.{T, leb, ltb, lit<}
 use lib.ListN.{length, getD, set}
-use lib.Ieee.{Float, nan, inf, fin, up, down, mul, le, ofInt}
+use lib.Ieee.{Float, nan, inf, fin, binary64, up, down, round, mul, lt, le, ofInt}
 use lib.Ieee.Fits.{down-pos}
-use Rattle.floats.specs.Numbers.{_-ᶠ_, _*ᶠ_, _≤ᶠ_}
+use lib.Ieee.Order.{round-mono}
+use Rattle.floats.specs.Numbers.{_-ᶠ_, _*ᶠ_, _<ᶠ_, _≤ᶠ_}
+use Rattle.floats.proofs.Order.Fractions.{le→leq}
+use Rattle.floats.proofs.Order.Laws.{lt→le, not-lt→le, le-transitive}
 use Rattle.elementary.specs.Power.{powFrom, powi}
-use Rattle.walks.specs.Runs.{stateAt, recordAt}
+use Rattle.walks.specs.Runs.{stateAt, recordAt, following}
 use Rattle.charts.specs.declared.Place.{Place}
 use Rattle.charts.specs.Answers.{admittedAs, countOf}
 use Rattle.charts.proofs.Answers.{few-records}
@@ -23,10 +26,9 @@ use Rattle.ewma.specs.declared.Ewma.{Ewma}
 use Rattle.ewma.specs.declared.EwmaResult.{EwmaResult}
 use Rattle.ewma.specs.declared.State.{State}
 use Rattle.ewma.specs.declared.Settled.{Settled}
-use Rattle.ewma.specs.declared.Paced.{Paced}
-use Rattle.ewma.specs.Chart.{accepted, halfWidth, stepOf, shownOf, startState, nextState, followingState, Analyzed}
-use Rattle.ewma.specs.Settled.{faint, widthAt, settledFrom, settledOf, widthFrom, stepBy, nextBy, followedBy, shownPaced, startPaced, nextPaced}
-use Rattle.ewma.proofs.Fading.{Within, one, rounded-within, unit-product, squared, faded-power, one-less-faint}
+use Rattle.ewma.specs.Chart.{accepted, halfWidth, stepOf, fresh, itself, nextRecord, Analyzed}
+use Rattle.ewma.specs.Settled.{faint, widthAt, settledFrom, settledOf, widthFrom, stepBy, shownOf, startState, nextState, followingState}
+use Rattle.ewma.proofs.Fading.{Within, one, rounded-within, unit-product, squared, faded-power, no-less-than-one, one-less-faint}
 
 -- ---- the place
 -- a square that is at most 1 lies from 0 to 1
@@ -44,6 +46,56 @@ tested nan h t = absurd h
 tested (inf s) h t = absurd h
 tested (fin true m e) h t = absurd h
 tested (fin false m e) h t = rw t tt
+
+-- ---- a decay that is not below 1
+-- no number, or at least 1
+abbrev Beyond : Float → Type 0
+Beyond nan = Unit {0}
+Beyond (inf s) = T (not s)
+Beyond (fin s m e) = T (one ≤ᶠ fin s m e)
+
+not-below : (d : Float) → d <ᶠ one ≡ false → Beyond d
+not-below nan e = tt
+not-below (inf true) e = absurd (true≢false (unfold lt in e))
+not-below (inf false) e = tt
+not-below (fin s m g) e = not-lt→le (fin s m g) one tt tt (rw e tt)
+
+at-least : (z : Float) → T (one ≤ᶠ z) → Beyond z
+at-least nan h = tt
+at-least (inf true) h = absurd (unfold le in h)
+at-least (inf false) h = tt
+at-least (fin s m e) h = h
+
+-- its squares are so too, and none is faint
+beyond-square : (d : Float) → Beyond d → Beyond (d *ᶠ d)
+unfolding mul
+beyond-square nan h = tt
+beyond-square (inf true) h = absurd h
+beyond-square (inf false) h = tt
+beyond-square (fin true m e) h = absurd (no-less-than-one m e h)
+beyond-square (fin false m e) h = at-least (round binary64 false (m * up e * (m * up e)) (down e * down e)) (subst (λ (z : Float). T (z ≤ᶠ round binary64 false (m * up e * (m * up e)) (down e * down e))) (unfold round in refl)
+    (round-mono binary64 1 1 (m * up e * (m * up e)) (down e * down e) (lit< tt) (mul-pos (down-pos e) (down-pos e)) (squares (m * up e) (down e) (le→leq false 1 (pos 0) false m e h))))
+  where
+    squares : (a c : ℕ) → 1 * 1 * c + 0 * 1 ≤ a * 1 + 0 * c → 1 * (c * c) ≤ a * a * 1
+    squares a c h = let l : c ≤ a = omega (arith, h) in let q : c * c ≤ a * a = mul-le-mul l l in omega (arith, q)
+
+not-faint : (d : Float) → Beyond d → d ≤ᶠ faint ≡ false
+not-faint nan h = unfold le in refl
+not-faint (inf true) h = absurd h
+not-faint (inf false) h = unfold le in refl
+not-faint (fin s m g) h = go (fin s m g ≤ᶠ faint) refl
+  where
+    go : (t : Bool) → fin s m g ≤ᶠ faint ≡ t → t ≡ false
+    go true e = absurd (unfold le in le-transitive one (fin s m g) faint h (rw e tt))
+    go false e = refl
+
+never : (k p : ℕ) (d : Float) → Beyond d → settledFrom k p d ≡ p * 2 ^ k
+unfolding settledFrom
+never zero p d h = omega arith
+never (suc k) p d h = rw (settledFrom, not-faint d h) (never k (2 * p) (d *ᶠ d) (beyond-square d h) ∙ rw (pow-suc 2 k) (doubled (2 ^ k)))
+  where
+    doubled : (v : ℕ) → 2 * p * v ≡ p * (v * 2)
+    doubled v = omega arith
 
 -- a place is at least one whose decay is faint, so many squares after the decay of a first place
 pub record Reached (place first : ℕ) (decay : Float) : Type 0 where
@@ -90,7 +142,7 @@ even-power-faint (suc k) (suc n) place b e h l w r =
 -- the width that is kept from the place on is the place's own
 pub width-settles : (c : Ewma) (place : Place) → 0 < place .0 → place .0 < 8192 → widthFrom c (settledOf c) place ≡ halfWidth c place
 unfolding widthFrom settledOf halfWidth widthAt powi ofInt
-width-settles c place low high = go (kept *ᶠ kept ≤ᶠ one) refl
+width-settles c place low high = by-place (leb (settledFrom 13 1 (kept *ᶠ kept)) (place .0)) refl
   where
     kept : Float
     kept = one -ᶠ c .lambda
@@ -99,48 +151,51 @@ width-settles c place low high = go (kept *ᶠ kept ≤ᶠ one) refl
     rests : Within faint (powi kept (2 * place .0)) → widthAt c one ≡ halfWidth c place
     rests f = ap (widthAt c) (sym (one-less-faint (powi kept (2 * place .0)) f))
 
-    from-there : (t : Bool) → kept *ᶠ kept ≤ᶠ one ≡ t → cond t (settledFrom 13 1 (kept *ᶠ kept)) 8192 ≤ place .0 → widthAt c one ≡ halfWidth c place
+    from-there : (t : Bool) → kept *ᶠ kept <ᶠ one ≡ t → settledFrom 13 1 (kept *ᶠ kept) ≤ place .0 → widthAt c one ≡ halfWidth c place
     from-there true e h =
-        let w : Within one (kept *ᶠ kept) = square-within kept (rw e tt) in
+        let w : Within one (kept *ᶠ kept) = square-within kept (lt→le (kept *ᶠ kept) one (rw e tt)) in
         rests (even-power-faint (2 * place .0) (2 * place .0) (place .0) kept refl (omega arith) low w (reached 13 1 (place .0) (kept *ᶠ kept) w h (omega (arith, high))))
-    from-there false e h = absurd (too-far h)
+    from-there false e h = absurd (too-far (rw (never 13 1 (kept *ᶠ kept) (not-below (kept *ᶠ kept) e)) at h))
       where
         too-far : 8192 ≤ place .0 → ⊥
         too-far h = omega (arith, h, high)
 
-    by-place : (t : Bool) (from : ℕ) → leb from (place .0) ≡ t → (from ≤ place .0 → widthAt c one ≡ halfWidth c place) → cond t (widthAt c one) (halfWidth c place) ≡ halfWidth c place
-    by-place true from e f = f (leb-true from (place .0) e)
-    by-place false from e f = refl
-
-    go : (t : Bool) → kept *ᶠ kept ≤ᶠ one ≡ t → cond (leb (cond t (settledFrom 13 1 (kept *ᶠ kept)) 8192) (place .0)) (widthAt c one) (halfWidth c place) ≡ halfWidth c place
-    go t e = by-place (leb (cond t (settledFrom 13 1 (kept *ᶠ kept)) 8192) (place .0)) (cond t (settledFrom 13 1 (kept *ᶠ kept)) 8192) refl (from-there t e)
+    by-place : (t : Bool) → leb (settledFrom 13 1 (kept *ᶠ kept)) (place .0) ≡ t → cond t (widthAt c one) (halfWidth c place) ≡ halfWidth c place
+    by-place true e = from-there (kept *ᶠ kept <ᶠ one) refl (leb-true (settledFrom 13 1 (kept *ᶠ kept)) (place .0) e)
+    by-place false e = refl
 
 -- ---- a run
-pub next-settles : (c : Ewma) (w : Settled) (s : State) (i : ℕ) (x : Float) → w ≡ settledOf c → i < 4096 → nextBy w c s i x ≡ nextState c s i x
-unfolding stepBy stepOf
-next-settles c w s i x e h =
-    ap (λ (v : Settled). nextBy v c s i x) e
-    ∙ ap (λ (half : Float). record { shown = stepBy c half (s .shown) (record { 0 = i }) x }) (width-settles c (record { 0 = suc i }) (omega arith) (omega (arith, h)))
+-- a state that has where the limits of the chart settle moves on as the chart's records do
+module _ (c : Ewma) (s : State) (i : ℕ) (e : s .settled ≡ settledOf c) (h : i < 4096) where
+  next-settles : (x : Float) → nextState c s i x ≡ record { shown = nextRecord c (s .shown) i x; settled = settledOf c }
+  unfolding stepBy stepOf
+  next-settles x =
+      ap (λ (w : Settled). nextState c (record { shown = s .shown; settled = w }) i x) e
+      ∙ ap (λ (half : Float). record { shown = stepBy c half (s .shown) (record { 0 = i }) x; settled = settledOf c }) (width-settles c (record { 0 = suc i }) (omega arith) (omega (arith, h)))
 
-pub followed-settles : (c : Ewma) (w : Settled) (xs : List Float) (i : ℕ) (s : State) → w ≡ settledOf c → i < 4096 → followedBy w c xs i s ≡ followingState c xs i s
-followed-settles c w xs i s e h = ap (λ (t : State). cond (ltb i (length xs)) t s) (next-settles c w s i (getD xs i nan) e h)
+  pub following-settles : (xs : List Float) → (followingState c xs i s .shown ≡ following nextRecord c xs i (s .shown)) × (followingState c xs i s .settled ≡ settledOf c)
+  following-settles xs = go (ltb i (length xs))
+    where
+      go : (b : Bool) → let x = getD xs i nan in (cond b (nextState c s i x) s .shown ≡ cond b (nextRecord c (s .shown) i x) (s .shown)) × (cond b (nextState c s i x) s .settled ≡ settledOf c)
+      go true = (ap (λ (t : State). t .shown) (next-settles (getD xs i nan)), e)
+      go false = (refl, e)
 
--- a run that carries the place along shows the same records
+-- so that a run of states shows the chart's own records
 module _ (c : Ewma) (xs : List Float) where
-  paced-at : (n : ℕ) → n ≤ 4096 → stateAt shownPaced startPaced nextPaced c xs n ≡ record { shown = stateAt shownOf startState nextState c xs n .shown; settled = settledOf c }
-  paced-at zero h = refl
-  paced-at (suc n) h =
-      let s = stateAt shownOf startState nextState c xs n in
-      ap (λ (p : Paced). nextPaced c p n (getD xs n nan)) (paced-at n (omega (arith, h))) ∙ ap (λ (t : State). record { shown = t .shown; settled = settledOf c }) (next-settles c (settledOf c) s n (getD xs n nan) refl h)
+  pub state-settles : (n : ℕ) → n ≤ 4096 → stateAt shownOf startState nextState c xs n ≡ record { shown = stateAt itself fresh nextRecord c xs n; settled = settledOf c }
+  state-settles zero h = refl
+  state-settles (suc n) h =
+      let s : State = record { shown = stateAt itself fresh nextRecord c xs n; settled = settledOf c } in
+      ap (λ (t : State). nextState c t n (getD xs n nan)) (state-settles n (omega (arith, h))) ∙ next-settles c s n refl h (getD xs n nan)
 
-  pub paced-written : (n : ℕ) (entry : List EwmaResult) → n ≤ 4096 → written shownPaced startPaced nextPaced c xs n entry ≡ written shownOf startState nextState c xs n entry
-  paced-written zero entry h = refl
-  paced-written (suc n) entry h =
-      ap (λ (l : List EwmaResult). set l n (recordAt shownPaced startPaced nextPaced c xs n)) (paced-written n entry (omega (arith, h)))
-      ∙ ap (λ (p : Paced). set (written shownOf startState nextState c xs n entry) n (p .shown)) (paced-at (suc n) h)
+  written-settles : (n : ℕ) (entry : List EwmaResult) → n ≤ 4096 → written shownOf startState nextState c xs n entry ≡ written itself fresh nextRecord c xs n entry
+  written-settles zero entry h = refl
+  written-settles (suc n) entry h =
+      ap (λ (l : List EwmaResult). set l n (recordAt shownOf startState nextState c xs n)) (written-settles n entry (omega (arith, h)))
+      ∙ ap (λ (s : State). set (written itself fresh nextRecord c xs n entry) n (s .shown)) (state-settles (suc n) h)
 
 -- what `analyze` leaves is the chart's own
-pub paced-analyzed : (c : Ewma) (xs : List Float) (entry : List EwmaResult) → let r = admittedAs (accepted c) (length xs) (length entry) in Analyzed c xs entry r (written shownPaced startPaced nextPaced c xs (countOf r) entry)
-paced-analyzed c xs entry =
+pub settled-analyzed : (c : Ewma) (xs : List Float) (entry : List EwmaResult) → let r = admittedAs (accepted c) (length xs) (length entry) in Analyzed c xs entry r (written shownOf startState nextState c xs (countOf r) entry)
+settled-analyzed c xs entry =
     let r = admittedAs (accepted c) (length xs) (length entry) in
-    rw (paced-written c xs (countOf r) entry (few-records (accepted c) (length xs) (length entry))) (analyzed shownOf startState nextState accepted c xs entry)
+    rw (written-settles c xs (countOf r) entry (few-records (accepted c) (length xs) (length entry))) (analyzed itself fresh nextRecord accepted c xs entry)

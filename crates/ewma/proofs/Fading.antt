@@ -124,15 +124,19 @@ faded-power (suc j) (suc k) (suc n) b r h g p q f =
     faded-power j k (suc n / 2) (b *ᶠ b) (timesIf (suc n % 2) r b) (omega (arith, h)) (omega (arith, g, pow-suc 2 j)) (unit-product b b p p) (unit-times (suc n % 2) r b q p) f
 
 -- ---- 1 less what is faint
+-- a value with a sign is below it
+pub no-less-than-one : (m : ℕ) (e : ℤ) → T (le one (fin true m e)) → ⊥
+no-less-than-one m e h = below (m * up e) (down e) (down-pos e) (le→leq false 1 (pos 0) true m e h)
+  where
+    below : (a d : ℕ) → 0 < d → 1 * 1 * d + a * 1 ≤ 0 * 1 + 0 * d → ⊥
+    below a d p l = omega (arith, p, l)
+
 -- a value that the format holds and that is neither above 1 nor below it
 only-one : (v : Float) → T (fits binary64 v) → T (le one v) → T (le v one) → v ≡ one
 only-one nan f h g = absurd (unfold le in g)
 only-one (inf true) f h g = absurd (unfold le in h)
 only-one (inf false) f h g = absurd (unfold le in g)
-only-one (fin true m e) f h g = absurd (below (m * up e) (down e) (down-pos e) (le→leq false 1 (pos 0) true m e h))
-  where
-    below : (a d : ℕ) → 0 < d → 1 * 1 * d + a * 1 ≤ 0 * 1 + 0 * d → ⊥
-    below a d p l = omega (arith, p, l)
+only-one (fin true m e) f h g = absurd (no-less-than-one m e h)
 only-one (fin false m e) f h g = whole-unique binary64 (fin false m e) one false 1 f (unfold fits in tt) (refl, same (m * up e) (down e) (le→leq false 1 (pos 0) false m e h) (le→leq false m e false 1 (pos 0) g)) (refl, refl)
   where
     same : (a d : ℕ) → 1 * 1 * d + 0 * 1 ≤ a * 1 + 0 * d → a * 1 + 0 * d ≤ 1 * 1 * d + 0 * 1 → a * 1 ≡ 1 * d

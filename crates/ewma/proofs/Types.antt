@@ -9,8 +9,6 @@ use Rattle.ewma.proofs.State as S
 use Rattle.ewma.proofs.State.Laws as S′
 use Rattle.ewma.proofs.Settled as W
 use Rattle.ewma.proofs.Settled.Laws as W′
-use Rattle.ewma.proofs.Paced as P
-use Rattle.ewma.proofs.Paced.Laws as P′
 
 abbrev pub KC : Kind
 KC = kindOf C.the-row C′.mir (SL.val C.the-type C′.the-laws)
@@ -24,14 +22,11 @@ KS = kindOf S.the-row S′.mir (SL.val S.the-type S′.the-laws)
 abbrev pub KW : Kind
 KW = kindOf W.the-row W′.mir (SL.val W.the-type W′.the-laws)
 
-abbrev pub KP : Kind
-KP = kindOf P.the-row P′.mir (SL.val P.the-type P′.the-laws)
-
 pub good-c : Good KC
 good-c = record { tells = SL.tells C.the-type C′.the-laws; makes = λ 𝓤 H A W. SL.makes C.the-type C′.the-plain 𝓤 H A; lawful = SL.lawful C.the-type C′.the-laws }
 
 pub good-r : Good KR
 good-r = record { tells = SL.tells R.the-type R′.the-laws; makes = λ 𝓤 H A W. SL.makes R.the-type R′.the-plain 𝓤 H A; lawful = SL.lawful R.the-type R′.the-laws }
 
-pub good-p : Good KP
-good-p = record { tells = SL.tells P.the-type P′.the-laws; makes = λ 𝓤 H A W. SL.makes P.the-type P′.the-plain 𝓤 H A; lawful = SL.lawful P.the-type P′.the-laws }
+pub good-s : Good KS
+good-s = record { tells = SL.tells S.the-type S′.the-laws; makes = λ 𝓤 H A W. SL.makes S.the-type S′.the-plain 𝓤 H A; lawful = SL.lawful S.the-type S′.the-laws }

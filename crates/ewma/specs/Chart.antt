@@ -16,7 +16,6 @@ use Rattle.charts.specs.declared.Observation.{Observation}
 use Rattle.charts.specs.declared.Place.{Place}
 use Rattle.ewma.specs.declared.Ewma.{Ewma}
 use Rattle.ewma.specs.declared.EwmaResult.{EwmaResult}
-use Rattle.ewma.specs.declared.State.{State}
 
 -- the two constructors; `new` has the defaults lambda 0.2 and L 3
 abbrev pub withParams : Float → Float → Float → Float → Ewma
@@ -62,31 +61,25 @@ stepOf c before index x =
 abbrev pub fresh : Ewma → EwmaResult
 fresh c = record { ewma = c .target; ucl = c .target; lcl = c .target; signal = false; index = record { 0 = 0 } }
 
--- the same as states of a run, and the record that a state shows
-abbrev pub shownOf : State → EwmaResult
-shownOf s = s .shown
+-- the same as a run whose states are the records, each of which shows itself
+abbrev pub itself : EwmaResult → EwmaResult
+itself r = r
 
-abbrev pub startState : Ewma → State
-startState c = record { shown = fresh c }
-
-abbrev pub nextState : Ewma → State → ℕ → Float → State
-nextState c s i x = record { shown = stepOf c (s .shown) (record { 0 = i }) x }
-
-abbrev pub followingState : Ewma → List Float → ℕ → State → State
-followingState = Runs.following nextState
+abbrev pub nextRecord : Ewma → EwmaResult → ℕ → Float → EwmaResult
+nextRecord c before i x = stepOf c before (record { 0 = i }) x
 
 -- the record of the reading at i, those of the first n, and the indices among them that signal
 abbrev pub recordAt : Ewma → List Float → ℕ → EwmaResult
-recordAt = Runs.recordAt shownOf startState nextState
+recordAt = Runs.recordAt itself fresh nextRecord
 
 abbrev pub records : Ewma → List Float → ℕ → List EwmaResult
-records = Runs.records shownOf startState nextState
+records = Runs.records itself fresh nextRecord
 
 abbrev pub signalOf : EwmaResult → Bool
 signalOf r = r .signal
 
 abbrev pub signalling : Ewma → List Float → ℕ → List ℕ
-signalling c xs n = Runs.points shownOf startState nextState c xs signalOf n
+signalling c xs n = Runs.points itself fresh nextRecord c xs signalOf n
 
 -- what `analyze` and `signal_points` answer and leave
 abbrev pub Analyzed : Ewma → List Float → List EwmaResult → Charted → List EwmaResult → Type 0

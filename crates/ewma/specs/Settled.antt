@@ -15,7 +15,6 @@ use Rattle.ewma.specs.declared.Ewma.{Ewma}
 use Rattle.ewma.specs.declared.EwmaResult.{EwmaResult}
 use Rattle.ewma.specs.declared.State.{State}
 use Rattle.ewma.specs.declared.Settled.{Settled}
-use Rattle.ewma.specs.declared.Paced.{Paced}
 use Rattle.ewma.specs.Chart.{halfWidth, placeOf, within, outside, averaged, fresh}
 
 -- half the distance of the limits where the statistic has a share of its variance at rest; at a place that share is 1 less the decay
@@ -33,9 +32,7 @@ settledFrom (suc k) place decay = elim (decay ≤ᶠ faint) [ true ↦ place | f
 
 -- the same for a chart, from place 1 on; a decay above 1 never settles, and no chart reaches place 8,192
 unfoldable pub settledOf : Ewma → Settled
-settledOf c =
-    let kept = whole 1 -ᶠ c .lambda in
-    record { from = cond (kept *ᶠ kept ≤ᶠ whole 1) (settledFrom 13 1 (kept *ᶠ kept)) 8192; «half_width» = widthAt c (whole 1) }
+settledOf c = let kept = whole 1 -ᶠ c .lambda in record { from = settledFrom 13 1 (kept *ᶠ kept); «half_width» = widthAt c (whole 1) }
 
 -- the width at a place: the one at rest from there on, and before it the place's own
 unfoldable pub widthFrom : Ewma → Settled → Place → Float
@@ -47,19 +44,15 @@ stepBy c half before index x =
     let ewma = averaged c (before .ewma) x in
     cond (finite x) (within c index half (outside c half ewma) ewma) (within c index half false (before .ewma))
 
--- the states of a run with those widths
-abbrev pub nextBy : Settled → Ewma → State → ℕ → Float → State
-nextBy w c s i x = record { shown = stepBy c (widthFrom c w (placeOf (record { 0 = i }))) (s .shown) (record { 0 = i }) x }
+-- the states of a run with those widths, which carry them along, and the record that a state shows
+abbrev pub shownOf : State → EwmaResult
+shownOf s = s .shown
 
-abbrev pub followedBy : Settled → Ewma → List Float → ℕ → State → State
-followedBy w = Runs.following (nextBy w)
+abbrev pub startState : Ewma → State
+startState c = record { shown = fresh c; settled = settledOf c }
 
--- the states of a run that carries them along
-abbrev pub shownPaced : Paced → EwmaResult
-shownPaced p = p .shown
+abbrev pub nextState : Ewma → State → ℕ → Float → State
+nextState c s i x = record { shown = stepBy c (widthFrom c (s .settled) (placeOf (record { 0 = i }))) (s .shown) (record { 0 = i }) x; settled = s .settled }
 
-abbrev pub startPaced : Ewma → Paced
-startPaced c = record { shown = fresh c; settled = settledOf c }
-
-abbrev pub nextPaced : Ewma → Paced → ℕ → Float → Paced
-nextPaced c p i x = record { shown = nextBy (p .settled) c (record { shown = p .shown }) i x .shown; settled = p .settled }
+abbrev pub followingState : Ewma → List Float → ℕ → State → State
+followingState = Runs.following nextState

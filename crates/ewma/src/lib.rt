@@ -4,7 +4,6 @@
 //
 // Every call ends with an answer or a refusal, and asks nothing of its caller: settings are checked
 // when they are used. `specs/Chart` has the recurrences that the records equal.
-mod points;
 mod resting;
 mod step;
 
@@ -13,11 +12,7 @@ ghost use Rattle.ewma.specs.Chart.{newOf, withParams, Analyzed, Marked};
 use charts::Charted;
 use charts::Observation;
 use charts::Signalled;
-use points::mark;
-pub use resting::followed_by;
-use resting::next_paced;
-pub use resting::settles;
-use resting::start_paced;
+pub use step::following;
 pub use step::judge;
 pub use step::start;
 
@@ -38,21 +33,16 @@ pub struct EwmaResult {
     pub index: Observation,
 }
 
-// What goes from reading to reading: nothing beside the last record.
-pub struct State {
-    pub shown: EwmaResult,
-}
-
 // The place from which on the limits stay, and how far from the target.
 pub struct Settled {
     pub from: usize,
     pub half_width: f64,
 }
 
-// What goes from reading to reading in `analyze`: the last record, and where the limits settle.
-pub(crate) struct Paced {
-    pub(crate) shown: EwmaResult,
-    pub(crate) settled: Settled,
+// What goes from reading to reading: the last record, and where the limits settle.
+pub struct State {
+    pub shown: EwmaResult,
+    pub settled: Settled,
 }
 
 impl Ewma {
@@ -86,11 +76,11 @@ impl Ewma {
     {
         let answer = judge(self, data.len(), records.len());
         let n = charts::count(answer);
-        let mut paced = start_paced(self);
+        let mut state = start(self);
         let mut i = 0;
         while i < n {
-            paced = next_paced(self, data, i, paced);
-            records[i] = paced.shown;
+            state = following(self, data, i, state);
+            records[i] = state.shown;
             i += 1;
         }
         answer
@@ -103,7 +93,16 @@ impl Ewma {
         ensures { λ r. ⌜ Marked self (now («data» .entry)) (now (points .entry)) r (now (points .exit)) ⌝ }
     {
         let answer = judge(self, data.len(), points.len());
-        let count = mark(self, data, charts::count(answer), points);
+        let n = charts::count(answer);
+        let mut state = start(self);
+        let mut count = 0;
+        let mut i = 0;
+        while i < n {
+            state = following(self, data, i, state);
+            let shown = state.shown;
+            count = charts::note(shown.signal, i, count, points);
+            i += 1;
+        }
         charts::marked(answer, count)
     }
 }

@@ -1,12 +1,15 @@
-// The settings of a chart, its limits, and one reading's step.
+// The settings of a chart, one reading's record, and the states of a run.
 ghost use mathlib.Core.Path.{_≡_};
-ghost use Prim.Native.Nat.{_≤_, _<_, _^_};
 ghost use Rattle.charts.specs.Answers.{admittedAs};
-ghost use Rattle.ewma.specs.Chart.{accepted, halfWidth, placeOf, startState};
-ghost use Rattle.ewma.specs.Settled.{widthAt, stepBy};
+ghost use Rattle.ewma.specs.Chart.{accepted};
+ghost use Rattle.ewma.specs.Settled.{stepBy, startState, followingState};
 use crate::Ewma;
 use crate::EwmaResult;
+use crate::Settled;
 use crate::State;
+use crate::resting::settled_from;
+use crate::resting::width_at;
+use crate::resting::width_from;
 use charts::Charted;
 use charts::Observation;
 use charts::Place;
@@ -16,10 +19,10 @@ fn accepted(chart: Ewma) -> bool
     ensures { λ r. ⌜ r ≡ accepted chart ⌝ }
 {
     let target = floats::finite(chart.target);
-    let sigma = charts::both(floats::finite(chart.sigma), 0.0 < chart.sigma);
-    let lambda = charts::both(0.0 < chart.lambda, chart.lambda <= 1.0);
-    let l_factor = charts::both(floats::finite(chart.l_factor), 0.0 < chart.l_factor);
-    charts::both(charts::both(charts::both(target, sigma), lambda), l_factor)
+    let sigma = floats::finite(chart.sigma) & (0.0 < chart.sigma);
+    let lambda = (0.0 < chart.lambda) & (chart.lambda <= 1.0);
+    let l_factor = floats::finite(chart.l_factor) & (0.0 < chart.l_factor);
+    target & sigma & lambda & l_factor
 }
 
 // What a call answers, for so many readings and room for so many results.
@@ -29,35 +32,9 @@ pub fn judge(chart: Ewma, readings: usize, room: usize) -> Charted
     charts::admitted(accepted(chart), readings, room)
 }
 
-// The place of an observation on the chart.
-pub(crate) fn place_of(index: Observation) -> Place
-    requires { ⌜ index .0 < 2 ^ 62 ⌝ }
-    ensures { λ r. ⌜ r ≡ placeOf index ⌝ }
-{
-    Place(index.0 + 1)
-}
-
-// How far the limits lie from the target where the statistic has this share of its variance at rest.
-pub(crate) fn width_at(chart: Ewma, share: f64) -> f64
-    ensures { λ r. ⌜ r ≡ widthAt chart share ⌝ }
-{
-    let asymptotic_var = chart.lambda / (2.0 - chart.lambda);
-    let time_varying_var = asymptotic_var * share;
-    chart.l_factor * chart.sigma * elementary::sqrt(time_varying_var)
-}
-
-// How far the limits lie from the target at a place. Cost: one turn for each binary digit of the place.
-pub(crate) fn control_limit_half_width(chart: Ewma, place: Place) -> f64
-    requires { ⌜ place .0 ≤ 2 ^ 62 ⌝ }
-    ensures { λ r. ⌜ r ≡ halfWidth chart place ⌝ }
-{
-    let decay = elementary::powi(1.0 - chart.lambda, (2 * place.0) as u64);
-    width_at(chart, 1.0 - decay)
-}
-
 // The record of the reading x, with limits so far from the target, from the statistic of the record
 // before it. A gap carries it forward.
-pub(crate) fn step_by(
+fn step_by(
     chart: Ewma,
     half_width: f64,
     before: EwmaResult,
@@ -70,7 +47,7 @@ pub(crate) fn step_by(
     let lcl = chart.target - half_width;
     if floats::finite(x) {
         let ewma = chart.lambda * x + (1.0 - chart.lambda) * before.ewma;
-        let signal = charts::either(ucl < ewma, ewma < lcl);
+        let signal = (ucl < ewma) | (ewma < lcl);
         EwmaResult {
             ewma,
             ucl,
@@ -89,7 +66,8 @@ pub(crate) fn step_by(
     }
 }
 
-// Before the first reading the statistic is the target.
+// Before the first reading the statistic is the target. Cost: at most 13 squares, for where the limits
+// settle.
 pub fn start(chart: Ewma) -> State
     ensures { λ r. ⌜ r ≡ startState chart ⌝ }
 {
@@ -100,5 +78,28 @@ pub fn start(chart: Ewma) -> State
         signal: false,
         index: Observation(0),
     };
-    State { shown }
+    let half_width = width_at(chart, 1.0);
+    let kept = 1.0 - chart.lambda;
+    let settled = Settled {
+        from: settled_from(kept * kept),
+        half_width,
+    };
+    State { shown, settled }
+}
+
+// The state after the reading at i, and the same state where there is no such reading.
+pub fn following(chart: Ewma, data: &[f64], i: usize, state: State) -> State
+    ensures { λ r. ⌜ r ≡ followingState chart (now («data» .entry)) i state ⌝ }
+{
+    if i < data.len() {
+        let before = state.shown;
+        let settled = state.settled;
+        let half_width = width_from(chart, settled, Place(i + 1));
+        let after = step_by(chart, half_width, before, Observation(i), data[i]);
+        return State {
+            shown: after,
+            settled,
+        };
+    }
+    state
 }

@@ -4,11 +4,10 @@ use Prim.Native.Nat.{ℕ, suc, _≤_, _<_, _+_}
 use mathlib.Core.List.{List, [], _∷_, _++_, map, map-append}
 use native.Mathlib.Omega.{arith}
 use native.Mathlib.Numerals.{add-one}
-use borrow.Author.Tests.{lt-ltb}
 use lib.ListN.{length, getD, set, length-map}
 use lib.Ieee.{Float, nan}
 use Rattle.walks.specs.Runs.{stateAt, recordAt, records, following, column}
-use Rattle.walks.proofs.Runs.{lent-more, length-lent, length-records}
+use Rattle.walks.proofs.Runs.{following-is, lent-more, length-lent, length-records}
 
 module _ {C S D : Type 0} (shown : S → D) (start : C → S) (step : C → S → ℕ → Float → S) (c : C) (xs : List Float) (n : ℕ) where
   -- after i of n readings the state is s
@@ -31,7 +30,7 @@ module _ {C S D : Type 0} (shown : S → D) (start : C → S) (step : C → S �
   -- a turn: the reading at i
   module _ (s : S) (i : ℕ) (g : Going s i) (s′ : S) (readings : n ≤ length xs) (below : i < n) (next : s′ ≡ following step c xs i s) where
     moves : s′ ≡ stateAt shown start step c xs (suc i)
-    moves = next ∙ rw (lt-ltb i (length xs) (omega (arith, below, readings))) (ap (λ (t : S). step c t i (getD xs i nan)) (g .state))
+    moves = next ∙ following-is step c xs i s (omega (arith, below, readings)) ∙ ap (λ (t : S). step c t i (getD xs i nan)) (g .state)
 
     pub one-gone : Going s′ (i + 1)
     one-gone = record { within = omega (arith, below); state = rw add-one moves }

@@ -9,11 +9,16 @@ use native.Mathlib.Nat.{not-suc-le-zero, le-of-suc-le-suc, eq-or-lt-of-le}
 use mathlib.Core.Logic.{inl, inr}
 use lib.ListN.{length, getD, set, drop, length-set, length-append, length-drop}
 use lib.Seq.{drop-cons, set-at, getD-append-seam}
-use lib.Ieee.{Float}
-use Rattle.walks.specs.Runs.{recordAt, records, points, lent}
+use borrow.Author.Tests.{lt-ltb}
+use lib.Ieee.{Float, nan}
+use Rattle.walks.specs.Runs.{recordAt, records, points, following, lent}
 
 pub length-lent : {D : Type 0} (results entry : List D) → length results ≤ length entry → length (lent results entry) ≡ length entry
 length-lent results entry h = length-append results (drop (length results) entry) ∙ ap (λ (k : ℕ). length results + k) (length-drop (length results) entry) ∙ omega arith
+
+-- where there is such a reading, the state that follows is the step's
+pub following-is : {C S : Type 0} (step : C → S → ℕ → Float → S) (c : C) (xs : List Float) (i : ℕ) (s : S) → i < length xs → following step c xs i s ≡ step c s i (getD xs i nan)
+following-is step c xs i s h = rw (lt-ltb i (length xs) h)
 
 -- ---- one result more at the front of a lent list
 pub lent-more : {D : Type 0} (results entry : List D) (v fallback : D) (k : ℕ) → length results ≡ k → k < length entry → set (lent results entry) k v ≡ lent (results ++ (v ∷ [])) entry

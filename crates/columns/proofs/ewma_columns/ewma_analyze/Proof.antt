@@ -7,9 +7,11 @@ use denote.Ref.{now}
 use Rattle.charts.specs.Answers.{admittedAs, charted, countOf}
 use Rattle.charts.specs.declared.Charted.{Charted}
 use Rattle.charts.proofs.Answers.{admitted-says, few-records}
+use Rattle.walks.specs.Runs.{following}
 use Rattle.walks.proofs.Columns.{Going, not-gone}
-use Rattle.ewma.specs.Chart.{accepted, shownOf, startState, nextState, followingState}
-use Rattle.ewma.proofs.AtRest.{followed-settles}
+use Rattle.ewma.specs.Chart.{accepted, fresh, itself, nextRecord}
+use Rattle.ewma.specs.Settled.{settledOf}
+use Rattle.ewma.proofs.AtRest.{following-settles}
 use Rattle.told.specs.Told.{countedOf}
 use Rattle.columns.specs.EwmaColumns.{Filled, roomOf}
 use Rattle.columns.proofs.EwmaLaws.{Room, written-room, ewma-length, ucl-length, lcl-length, signal-length, index-length, all-done, one-more}
@@ -17,11 +19,11 @@ use Rattle.columns.proofs.ewma_columns.ewma_analyze.Statement.{statemen
 use Rattle.columns.proofs.ewma_columns.ewma_analyze.Tie as tie
 
 abbrev Inv-loop : tie.InvT-loop
-Inv-loop chart «data» ewma₀ ucl₀ lcl₀ signal₀ index₀ room answer n settled state₀ i₀ ewma ucl lcl signal index state i =
-    Going shownOf startState nextState chart «data» n state i × Filled chart «data» i ewma₀ ewma ucl₀ ucl lcl₀ lcl signal₀ signal index₀ index
+Inv-loop chart «data» ewma₀ ucl₀ lcl₀ signal₀ index₀ room answer n state₀ i₀ ewma ucl lcl signal index state i =
+    Going itself fresh nextRecord chart «data» n (state .shown) i × Filled chart «data» i ewma₀ ewma ucl₀ ucl lcl₀ lcl signal₀ signal index₀ index × (state .settled ≡ settledOf chart)
 
 abbrev μ-loop : tie.MeasureT-loop
-μ-loop chart «data» ewma₀ ucl₀ lcl₀ signal₀ index₀ room answer n settled state₀ i₀ ewma ucl lcl signal index state i = n - i
+μ-loop chart «data» ewma₀ ucl₀ lcl₀ signal₀ index₀ room answer n state₀ i₀ ewma ucl lcl signal index state i = n - i
 
 shorter-requires : tie.Need-shorter-requires Inv-loop μ-loop
 shorter-requires c κs = tt
@@ -35,26 +37,23 @@ judge-requires c κs = tt
 count-requires : tie.Need-count-requires Inv-loop μ-loop
 count-requires c κs = tt
 
-settles-requires : tie.Need-settles-requires Inv-loop μ-loop
-settles-requires c κs = tt
-
 start-requires : tie.Need-start-requires Inv-loop μ-loop
 start-requires c κs = tt
 
 loop-holds : tie.Need-loop-holds Inv-loop μ-loop
-loop-holds c = (rw (c .start .ensures) (not-gone shownOf startState nextState _ _ _), record { ewma-left = refl; ucl-left = refl; lcl-left = refl; signal-left = refl; index-left = refl })
+loop-holds c = rw (c .start .ensures) (not-gone itself fresh nextRecord _ _ _, record { ewma-left = refl; ucl-left = refl; lcl-left = refl; signal-left = refl; index-left = refl }, refl)
 
-followed-by-requires : tie.Need-followed-by-requires Inv-loop μ-loop
-followed-by-requires c κs = tt
+following-requires : tie.Need-following-requires Inv-loop μ-loop
+following-requires c κs = tt
 
 -- the answer, and that so many records have room
-answered : (c : tie.At-loop Inv-loop μ-loop) → let a = c .before .before .before .before .before .before .before .before .before .before .before .before .before .args in c .before .before .before .before .judge .result ≡ admittedAs (accepted (a .chart)) (length (now (a .«data»))) (roomOf (now (a .ewma)) (now (a .ucl)) (now (a .lcl)) (now (a .signal)) (now (a .index)))
-answered c = c .before .before .before .before .judge .ensures ∙ rw (c .before .before .before .before .before .shortest .ensures, c .before .before .before .before .before .before .shorter .ensures) refl
+answered : (c : tie.At-loop Inv-loop μ-loop) → let a = c .before .before .before .before .before .before .before .before .before .before .before .before .args in c .before .before .before .judge .result ≡ admittedAs (accepted (a .chart)) (length (now (a .«data»))) (roomOf (now (a .ewma)) (now (a .ucl)) (now (a .lcl)) (now (a .signal)) (now (a .index)))
+answered c = c .before .before .before .judge .ensures ∙ rw (c .before .before .before .before .shortest .ensures, c .before .before .before .before .before .shorter .ensures) refl
 
-counted : (c : tie.At-loop Inv-loop μ-loop) → let a = c .before .before .before .before .before .before .before .before .before .before .before .before .before .args in c .before .before .before .count .result ≡ countOf (admittedAs (accepted (a .chart)) (length (now (a .«data»))) (roomOf (now (a .ewma)) (now (a .ucl)) (now (a .lcl)) (now (a .signal)) (now (a .index))))
-counted c = c .before .before .before .count .ensures ∙ ap countOf (answered c)
+counted : (c : tie.At-loop Inv-loop μ-loop) → let a = c .before .before .before .before .before .before .before .before .before .before .before .before .args in c .before .before .count .result ≡ countOf (admittedAs (accepted (a .chart)) (length (now (a .«data»))) (roomOf (now (a .ewma)) (now (a .ucl)) (now (a .lcl)) (now (a .signal)) (now (a .index))))
+counted c = c .before .before .count .ensures ∙ ap countOf (answered c)
 
-fits : (c : tie.At-loop Inv-loop μ-loop) → let a = c .before .before .before .before .before .before .before .before .before .before .before .before .before .args in (c .before .before .before .count .result ≤ length (now (a .«data»))) × Room (c .before .before .before .count .result) (now (a .ewma)) (now (a .ucl)) (now (a .lcl)) (now (a .signal)) (now (a .index))
+fits : (c : tie.At-loop Inv-loop μ-loop) → let a = c .before .before .before .before .before .before .before .before .before .before .before .before .args in (c .before .before .count .result ≤ length (now (a .«data»))) × Room (c .before .before .count .result) (now (a .ewma)) (now (a .ucl)) (now (a .lcl)) (now (a .signal)) (now (a .index))
 fits c = rw (counted c) (written-room _ _ _ _ _ _ _)
 
 ewma-within : (c : tie.In-loop Inv-loop μ-loop) → c .before .loop .i < length (c .before .loop .ewma)
@@ -82,7 +81,7 @@ index-within c =
     let e = index-length (fits (c .before) .1) (c .before .loop .inv .0) (c .before .loop .inv .1) in
     omega (arith, e, c .loop-test .taken, fits (c .before) .1 .index-room)
 
-few : (c : tie.At-loop Inv-loop μ-loop) → c .before .before .before .count .result ≤ 4096
+few : (c : tie.At-loop Inv-loop μ-loop) → c .before .before .count .result ≤ 4096
 few c = rw (counted c) (few-records _ _ _)
 
 -- an index of a reading is small
@@ -125,16 +124,20 @@ add-i c = omega (arith, small (c .before .before .before .before))
 loop-less : tie.Need-loop-less Inv-loop μ-loop
 loop-less c = omega (arith, c .before .before .before .before .loop-test .taken)
 
--- the state moves on as the chart's own
-moves : (c : tie.After-followed-by Inv-loop μ-loop) → let at = c .before .before in let a = at .before .before .before .before .before .before .before .before .before .before .before .before .before .args in
-    c .followed-by .result ≡ followingState (a .chart) (now (a .«data»)) (at .loop .i) (at .loop .state)
+-- the state moves on as the chart's records do
+moves : (c : tie.After-following Inv-loop μ-loop) → let at = c .before .before in let a = at .before .before .before .before .before .before .before .before .before .before .before .before .args in
+    (c .following .result .shown ≡ following nextRecord (a .chart) (now (a .«data»)) (at .loop .i) (at .loop .state .shown)) × (c .following .result .settled ≡ settledOf (a .chart))
 moves c =
     let at = c .before .before in
-    let a = at .before .before .before .before .before .before .before .before .before .before .before .before .before .args in
-    c .followed-by .ensures ∙ followed-settles (a .chart) (at .before .before .settles .result) (now (a .«data»)) (at .loop .i) (at .loop .state) (at .before .before .settles .ensures) (small (c .before))
+    let a = at .before .before .before .before .before .before .before .before .before .before .before .before .args in
+    rw (c .following .ensures) (following-settles (a .chart) (at .loop .state) (at .loop .i) (at .loop .inv .2) (small (c .before)) (now (a .«data»)))
 
 loop-again : tie.Need-loop-again Inv-loop μ-loop
-loop-again c = rw (c .flag .ensures) (one-more (fits (c .before .before .before .before .before) .1) (c .before .before .before .before .before .loop .inv .0) (c .before .before .before .before .before .loop .inv .1) (fits (c .before .before .before .before .before) .0) (c .before .before .before .before .loop-test .taken) _ (moves (c .before .before .before)))
+loop-again c =
+    let at = c .before .before .before .before .before in
+    let m = moves (c .before .before .before) in
+    let done = one-more (fits at .1) (at .loop .inv .0) (at .loop .inv .1) (fits at .0) (c .before .before .before .before .loop-test .taken) _ (m .0) in
+    rw (c .flag .ensures) (done .0, done .1, m .1)
 
 records-requires : tie.Need-records-requires Inv-loop μ-loop
 records-requires c κs = tt
@@ -164,4 +167,4 @@ returns c =
 pub ewma-analyze-spec : {M : Type 1} → statement M
 ewma-analyze-spec =
     tie.close
-    (tie.spec Inv-loop μ-loop shorter-requires shortest-requires judge-requires count-requires settles-requires start-requires loop-holds followed-by-requires mul-ewma slice-write-ewma mul-ucl slice-write-ucl mul-lcl slice-write-lcl flag-requires slice-write-signal mul-index slice-write-index add-i loop-less loop-again records-requires same-length same-length-2 same-length-3 same-length-4 same-length-5 returns)
+    (tie.spec Inv-loop μ-loop shorter-requires shortest-requires judge-requires count-requires start-requires loop-holds following-requires mul-ewma slice-write-ewma mul-ucl slice-write-ucl mul-lcl slice-write-lcl flag-requires slice-write-signal mul-index slice-write-index add-i loop-less loop-again records-requires same-length same-length-2 same-length-3 same-length-4 same-length-5 returns)

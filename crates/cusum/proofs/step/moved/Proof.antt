@@ -1,5 +1,5 @@
 -- `cusum::step::moved` meets its contract. Assumes nothing.
-use mathlib.Core.Path.{_≡_, refl, sym, ap, _∙_}
+use mathlib.Core.Path.{_≡_, refl, ap, _∙_}
 use mathlib.Core.Bool.{Bool, true, false, _&&_, false≢true}
 use lib.Ieee.{ofBits, isNan}
 use Rattle.floats.specs.Numbers.{_<ᶠ_, +0}
@@ -7,18 +7,15 @@ use Rattle.cusum.proofs.Allowance.{max-number}
 use Rattle.cusum.proofs.step.moved.Statement.{statement}
 use Rattle.cusum.proofs.step.moved.Tie as tie
 
-both-requires : tie.Need-both-requires
-both-requires c κs = tt
-
 -- the allowance and h are above 0
 both-true : (a b : Bool) → a && b ≡ true → (a ≡ true) × (b ≡ true)
 both-true true true e = (refl, refl)
 both-true true false e = absurd (false≢true e)
 both-true false b e = absurd (false≢true e)
 
-both-above : (c : tie.Then1) → let a = c .before .before .before .before .before .before .args in (+0 <ᶠ a .chart .k ≡ true) × (+0 <ᶠ a .chart .h ≡ true)
+both-above : (c : tie.Then1) → let a = c .before .before .before .before .before .args in (+0 <ᶠ a .chart .k ≡ true) × (+0 <ᶠ a .chart .h ≡ true)
 unfolding ofBits
-both-above c = both-true _ _ (sym (c .before .both .ensures) ∙ c .if1 .taken)
+both-above c = both-true _ _ (c .if1 .taken)
 
 less-requires : tie.Need-less-requires
 less-requires c κs = both-above c .0
@@ -29,12 +26,9 @@ less-requires-2 c κs = both-above (c .before) .0
 above-requires : tie.Need-above-requires
 above-requires c κs = (both-above (c .before .before .before) .1, ap isNan (c .before .less2 .ensures) ∙ max-number _)
 
-either-requires : tie.Need-either-requires
-either-requires c κs = tt
-
 returns : tie.Need-returns
 unfolding ofBits
-returns c = rw (c .either .ensures, c .before .above .ensures, c .before .before .before .less2 .ensures, c .before .before .before .before .less .ensures) refl
+returns c = rw (c .above .ensures, c .before .before .less2 .ensures, c .before .before .before .less .ensures) refl
 
 max-requires : tie.Need-max-requires
 max-requires c κs = tt
@@ -42,12 +36,9 @@ max-requires c κs = tt
 max-requires-2 : tie.Need-max-requires-2
 max-requires-2 c κs = tt
 
-either-requires-2 : tie.Need-either-requires-2
-either-requires-2 c κs = tt
-
 returns-2 : tie.Need-returns-2
 unfolding ofBits
-returns-2 c = rw (c .either2 .ensures, c .before .before .before .max2 .ensures, c .before .before .before .before .before .max .ensures) refl
+returns-2 c = rw (c .before .before .max2 .ensures, c .before .before .before .before .max .ensures) refl
 
 pub moved-spec : {M : Type 1} → statement M
-moved-spec = tie.close (tie.spec both-requires less-requires less-requires-2 above-requires either-requires returns max-requires max-requires-2 either-requires-2 returns-2)
+moved-spec = tie.close (tie.spec less-requires less-requires-2 above-requires returns max-requires max-requires-2 returns-2)

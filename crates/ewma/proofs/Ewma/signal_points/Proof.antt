@@ -1,42 +1,87 @@
--- `ewma::Ewma::signal_points` meets its contract: as many readings are marked as the answer stands for. Assumes nothing.
+-- `ewma::Ewma::signal_points` meets its contract: the loop of `signal_points` for any chart, over as many readings as the answer stands for, by the records that the states show. Assumes nothing.
 use mathlib.Core.Path.{_≡_, refl, ap, _∙_}
+use Prim.Native.Nat.{_≤_, _-_}
+use native.Mathlib.Omega.{arith}
 use borrow.Author.Needs.{needs}
-use lib.ListN.{length}
+use lib.ListN.{length, getD}
+use lib.Ieee.{nan}
 use denote.Ref.{now}
+use Rattle.walks.proofs.Runs.{following-is}
 use Rattle.charts.specs.Answers.{admittedAs, countOf}
 use Rattle.charts.proofs.Answers.{within-both, few-records}
-use Rattle.charts.proofs.Loops.{marked}
-use Rattle.ewma.specs.Chart.{accepted, signalling}
+use Rattle.charts.proofs.Loops.{Marking, none-marked, marked-length, all-marked, one-more, marked}
+use Rattle.ewma.specs.Chart.{accepted, fresh, itself, nextRecord, signalOf, signalling}
+use Rattle.ewma.specs.Settled.{settledOf}
+use Rattle.ewma.proofs.AtRest.{following-settles}
 use Rattle.ewma.proofs.Ewma.signal_points.Statement.{statement}
 use Rattle.ewma.proofs.Ewma.signal_points.Tie as tie
 
-judge-requires : tie.Need-judge-requires
-judge-requires c κs = search needs
+abbrev Inv-loop : tie.InvT-loop
+Inv-loop self «data» points₀ answer n state₀ count₀ i₀ points state count i = Marking itself fresh nextRecord signalOf self «data» n points₀ (state .shown) count i points × (state .settled ≡ settledOf self)
 
-count-requires : tie.Need-count-requires
-count-requires c κs = search needs
+abbrev μ-loop : tie.MeasureT-loop
+μ-loop self «data» points₀ answer n state₀ count₀ i₀ points state count i = n - i
 
--- how many readings are marked
-counted : (c : tie.After-count) → let a = c .before .before .before .before .args in c .count .result ≡ countOf (admittedAs (accepted (a .self)) (length (now (a .«data»))) (length (now (a .points))))
-counted c = c .count .ensures ∙ ap countOf (c .before .judge .ensures)
+judge-requires : tie.Need-judge-requires Inv-loop μ-loop
+judge-requires c κs = tt
 
-mark-requires : tie.Need-mark-requires
-mark-requires c κs = rw (counted (c .before)) (within-both _ _ _ .0, within-both _ _ _ .1, few-records _ _ _)
+count-requires : tie.Need-count-requires Inv-loop μ-loop
+count-requires c κs = tt
 
-marked-requires : tie.Need-marked-requires
-marked-requires c κs = search needs
+start-requires : tie.Need-start-requires Inv-loop μ-loop
+start-requires c κs = tt
 
-same-length : tie.Need-same-length
-same-length c = search needs
+loop-holds : tie.Need-loop-holds Inv-loop μ-loop
+loop-holds c = rw (c .start .ensures) (none-marked itself fresh nextRecord signalOf _ _ _ _, refl)
 
-returns : tie.Need-returns
+-- how many readings are marked, that so many fit both slices, and that they are few
+counted : (c : tie.At-loop Inv-loop μ-loop) → let a = c .before .before .before .before .before .before .args in c .before .before .count .result ≡ countOf (admittedAs (accepted (a .self)) (length (now (a .«data»))) (length (now (a .points))))
+counted c = c .before .before .count .ensures ∙ ap countOf (c .before .before .before .judge .ensures)
+
+fits : (c : tie.At-loop Inv-loop μ-loop) → let a = c .before .before .before .before .before .before .args in let n = c .before .before .count .result in (n ≤ length (now (a .«data»))) × (n ≤ length (now (a .points))) × (n ≤ 4096)
+fits c = rw (counted c) (within-both _ _ _ .0, within-both _ _ _ .1, few-records _ _ _)
+
+following-requires : tie.Need-following-requires Inv-loop μ-loop
+following-requires c κs = tt
+
+note-requires : tie.Need-note-requires Inv-loop μ-loop
+note-requires c κs = tt
+
+add-i : tie.Need-add-i Inv-loop μ-loop
+add-i c = search needs
+
+loop-less : tie.Need-loop-less Inv-loop μ-loop
+loop-less c = search needs
+
+-- the state moves on as the chart's records do
+moves : (c : tie.After-following Inv-loop μ-loop) → let at = c .before .before in let a = at .before .before .before .before .before .before .args in
+    (c .following .result .shown ≡ nextRecord (a .self) (at .loop .state .shown) (at .loop .i) (getD (now (a .«data»)) (at .loop .i) nan)) × (c .following .result .settled ≡ settledOf (a .self))
+moves c =
+    let at = c .before .before in
+    let a = at .before .before .before .before .before .before .args in
+    let m = following-settles (a .self) (at .loop .state) (at .loop .i) (at .loop .inv .1) (omega (arith, c .before .loop-test .taken, fits at .2)) (now (a .«data»)) in
+    rw (c .following .ensures) (rw (following-is nextRecord (a .self) (now (a .«data»)) (at .loop .i) (at .loop .state .shown) (omega (arith, c .before .loop-test .taken, fits at .0))) at (m .0), m .1)
+
+loop-again : tie.Need-loop-again Inv-loop μ-loop
+loop-again c =
+    let at = c .before .before .before .before .before .before .before in
+    let m = moves (c .before .before .before .before .before) in
+    (one-more itself fresh nextRecord signalOf _ _ _ _ _ _ _ _ (at .loop .inv .0) (fits at .1) _ _ _ (c .before .before .before .before .before .before .loop-test .taken) (m .0) (c .before .before .note .ensures), m .1)
+
+marked-requires : tie.Need-marked-requires Inv-loop μ-loop
+marked-requires c κs = tt
+
+same-length : tie.Need-same-length Inv-loop μ-loop
+same-length c = marked-length itself fresh nextRecord signalOf _ _ _ _ _ _ _ _ (c .before .before .loop .inv .0) (fits (c .before .before) .1)
+
+returns : tie.Need-returns Inv-loop μ-loop
 returns c =
-    let a = c .before .before .before .before .before .before .before .before .before .args in
-    rw (c .marked .ensures, c .before .before .before .before .before .before .judge .ensures)
+    let at = c .before .before in
+    let a = at .before .before .before .before .before .before .args in
+    rw (c .marked .ensures, at .before .before .before .judge .ensures)
     (marked (accepted (a .self)) (length (now (a .«data»))) (signalling (a .self) (now (a .«data»))) (now (a .points)) _ _ refl
-    (rw (counted (c .before .before .before .before .before)) at (c .before .before .before .mark .ensures)))
+    (rw (counted at) at (all-marked itself fresh nextRecord signalOf _ _ _ _ _ _ _ _ (at .loop .inv .0) (fits at .1) (c .before .loop-test .left))))
 
 pub signal-points-spec : {M : Type 1} → statement M
 signal-points-spec =
-    tie.close
-    (tie.spec judge-requires count-requires mark-requires marked-requires same-length returns)
+    tie.close (tie.spec Inv-loop μ-loop judge-requires count-requires start-requires loop-holds following-requires note-requires add-i loop-less loop-again marked-requires same-length returns)

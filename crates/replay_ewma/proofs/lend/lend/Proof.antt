@@ -17,11 +17,10 @@ use Rattle.walks.proofs.Plain.{Kind, Good, kindOf, rowOf, vals}
 use Rattle.charts.proofs.Loops.{analyzed-is}
 use Rattle.charts.proofs.ChartedKind.{KV, good-v}
 use Rattle.walks.proofs.ByValue.{meets, Analyze}
-use Rattle.ewma.specs.Chart.{accepted, shownOf, startState, nextState, Analyzed}
+use Rattle.ewma.specs.Chart.{accepted, fresh, itself, nextRecord, Analyzed}
 use Rattle.ewma.specs.declared.EwmaResult.{EwmaResult}
 use Rattle.ewma.proofs.EwmaResult as R
-use Rattle.ewma.proofs.State as S
-use Rattle.ewma.proofs.Types.{KC, KR, KS, good-c, good-r}
+use Rattle.ewma.proofs.Types.{KC, KR, good-c, good-r}
 use Rattle.ewma.proofs.Ewma.analyze.Symbol as analyze-def
 use Rattle.ewma.proofs.Ewma.analyze.Met as analyze-thm
 use Rattle.replay_ewma.specs.declared.lend.Lent.{Lent}
@@ -51,6 +50,6 @@ unfolding code.routine tablesOf
 lend-spec 𝓤 H 𝓜 𝓖 𝓡 =
     entered 𝓤 H (tripleOf 𝓤 H (𝓖 .A) lend.signature (lend.spec 𝓤 H (𝓖 .A) (𝓜 .mem) (𝓡 .run)))
     (tables 𝓤 H 𝓜 𝓡 code.env .C) (tables 𝓤 H 𝓜 𝓡 code.env .Λ) #lend code.function (code.unfolded 𝓤 H 𝓜 𝓡)
-    (meets KC KR KV KS KL (S.struct .name) tnil 4097 𝓤 judgeOf countOf shownOf startState nextState Analyzed H (𝓖 .A) good-c good-r good-v good-l (analyzed-is shownOf startState nextState accepted) mk owes (lit< tt, lit< tt)
+    (meets KC KR KV KR KL (R.struct .name) tnil 4097 𝓤 judgeOf countOf itself fresh nextRecord Analyzed H (𝓖 .A) good-c good-r good-v good-l (analyzed-is itself fresh nextRecord accepted) mk owes (lit< tt, lit< tt)
     (givenOf 𝓤 H 𝓜 𝓖) analyze-def.name (tablesOf 𝓤 H 𝓜 (tables 𝓤 H 𝓜 𝓡 code.env))
-    (cited 𝓤 H (Analyze KC KR KV KS KL (S.struct .name) tnil 4097 𝓤 judgeOf countOf shownOf startState nextState Analyzed H (𝓖 .A)) 𝓜 𝓡 code.env analyze-def.name analyze-def.routine code.calls-ewma·Ewma·analyze (analyze-thm.met 𝓤 H 𝓜 𝓖 𝓡)))
+    (cited 𝓤 H (Analyze KC KR KV KR KL (R.struct .name) tnil 4097 𝓤 judgeOf countOf itself fresh nextRecord Analyzed H (𝓖 .A)) 𝓜 𝓡 code.env analyze-def.name analyze-def.routine code.calls-ewma·Ewma·analyze (analyze-thm.met 𝓤 H 𝓜 𝓖 𝓡)))

@@ -1,8 +1,8 @@
--- `ewma::step::width_at` meets its contract. Assumes nothing.
+-- `ewma::resting::width_at` meets its contract. Assumes nothing.
 use lib.Ieee.{ofBits, ofInt}
 use Rattle.ewma.specs.Settled.{widthAt}
-use Rattle.ewma.proofs.step.width_at.Statement.{statement}
-use Rattle.ewma.proofs.step.width_at.Tie as tie
+use Rattle.ewma.proofs.resting.width_at.Statement.{statement}
+use Rattle.ewma.proofs.resting.width_at.Tie as tie
 
 sqrt-requires : tie.Need-sqrt-requires
 sqrt-requires c κs = tt
