@@ -189,22 +189,17 @@ max-number (inf s) = chosen (inf s <ᶠ +0) (ne (inf s) (inf s)) (inf s) refl
 max-number (fin s m e) = chosen (fin s m e <ᶠ +0) (ne (fin s m e) (fin s m e)) (fin s m e) refl
 
 -- ---- above h: not at most h
-pub at-most-not-above : (h s : Float) → s ≤ᶠ h ≡ true → false ≡ h <ᶠ s
-at-most-not-above h s e = go (h <ᶠ s) (λ t. lt-not-le h s t (rw e tt))
-  where
-    go : (b : Bool) → (T b → ⊥) → false ≡ b
-    go true f = absurd (f tt)
-    go false f = refl
-
 numbered : (s : Float) → isNan s ≡ false → T (number s)
 unfolding isNan
 numbered nan e = absurd (true≢false e)
 numbered (inf s) e = tt
 numbered (fin s m e) q = tt
 
-pub not-at-most-above : (h s : Float) → +0 <ᶠ h ≡ true → isNan s ≡ false → s ≤ᶠ h ≡ false → true ≡ h <ᶠ s
-not-at-most-above h s p n e = go (h <ᶠ s) (not-lt→le h s (le-right +0 h (lt→le +0 h (rw p tt))) (numbered s n))
+pub not-at-most : (h s : Float) → +0 <ᶠ h ≡ true → isNan s ≡ false → not (s ≤ᶠ h) ≡ h <ᶠ s
+not-at-most h s p n = go (s ≤ᶠ h) (h <ᶠ s) (λ l t. lt-not-le h s t l) (not-lt→le h s (le-right +0 h (lt→le +0 h (rw p tt))) (numbered s n))
   where
-    go : (b : Bool) → (T (not b) → T (s ≤ᶠ h)) → true ≡ b
-    go true f = refl
-    go false f = absurd (rw e at (f tt))
+    go : (a b : Bool) → (T a → T b → ⊥) → (T (not b) → T a) → not a ≡ b
+    go true true f g = absurd (f tt tt)
+    go true false f g = refl
+    go false true f g = refl
+    go false false f g = absurd (g tt)

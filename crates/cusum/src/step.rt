@@ -1,9 +1,9 @@
 // The settings of a chart, and one reading's step.
 ghost use mathlib.Core.Path.{_≡_};
 ghost use Prim.Native.Nat.{_<_};
-ghost use mathlib.Core.Bool.{true, false};
+ghost use mathlib.Core.Bool.{true};
 ghost use lib.ListN.{length, getD};
-ghost use lib.Ieee.{nan, isNan};
+ghost use lib.Ieee.{nan};
 ghost use Rattle.floats.specs.Numbers.{_+ᶠ_, _-ᶠ_, _<ᶠ_, +0};
 ghost use Rattle.floats.specs.MaxMin.{max};
 ghost use Rattle.charts.specs.Answers.{admittedAs};
@@ -42,15 +42,6 @@ fn less(sum: f64, k: f64) -> f64
     if 0.0 < left { left } else { 0.0 }
 }
 
-// Whether a sum that is no NaN is above h. It is asked from the other side, since two tests of one kind
-// are compiled to one of the larger sum, which keeps the sums waiting.
-fn above(h: f64, sum: f64) -> bool
-    requires { ⌜ (+0 <ᶠ h ≡ true) × (isNan sum ≡ false) ⌝ }
-    ensures { λ r. ⌜ r ≡ h <ᶠ sum ⌝ }
-{
-    if sum <= h { false } else { true }
-}
-
 // The record of a reading that lies z from the target.
 fn moved(chart: Cusum, before: CusumResult, index: Observation, z: f64) -> CusumResult
     ensures { λ r. ⌜ r ≡ moved chart index (max (before .«s_upper» +ᶠ z -ᶠ chart .k) +0) (max (before .«s_lower» -ᶠ z -ᶠ chart .k) +0) ⌝ }
@@ -60,7 +51,9 @@ fn moved(chart: Cusum, before: CusumResult, index: Observation, z: f64) -> Cusum
     if (0.0 < chart.k) & (0.0 < chart.h) {
         let s_upper = less(upper, chart.k);
         let s_lower = less(lower, chart.k);
-        let signal = (chart.h < s_upper) | above(chart.h, s_lower);
+        // The second test is asked from the other side, since two of one kind are compiled to one of the
+        // larger sum, which keeps the sums waiting.
+        let signal = (chart.h < s_upper) | !(s_lower <= chart.h);
         return CusumResult {
             s_upper,
             s_lower,

@@ -3,7 +3,7 @@ use mathlib.Core.Path.{_≡_, refl, ap, _∙_}
 use mathlib.Core.Bool.{Bool, true, false, _&&_, false≢true}
 use lib.Ieee.{ofBits, isNan}
 use Rattle.floats.specs.Numbers.{_<ᶠ_, +0}
-use Rattle.cusum.proofs.Allowance.{max-number}
+use Rattle.cusum.proofs.Allowance.{max-number, not-at-most}
 use Rattle.cusum.proofs.step.moved.Statement.{statement}
 use Rattle.cusum.proofs.step.moved.Tie as tie
 
@@ -23,12 +23,12 @@ less-requires c κs = both-above c .0
 less-requires-2 : tie.Need-less-requires-2
 less-requires-2 c κs = both-above (c .before) .0
 
-above-requires : tie.Need-above-requires
-above-requires c κs = (both-above (c .before .before .before) .1, ap isNan (c .before .less2 .ensures) ∙ max-number _)
-
 returns : tie.Need-returns
 unfolding ofBits
-returns c = rw (c .above .ensures, c .before .before .less2 .ensures, c .before .before .before .less .ensures) refl
+returns c =
+    let second = c .before .before .less2 in
+    let other-side = not-at-most (c .before .before .before .before .before .before .before .before .before .args .chart .h) (second .result) (both-above (c .before .before .before .before) .1) (ap isNan (second .ensures) ∙ max-number _) in
+    rw (other-side, second .ensures, c .before .before .before .less .ensures) refl
 
 max-requires : tie.Need-max-requires
 max-requires c κs = tt
@@ -41,4 +41,4 @@ unfolding ofBits
 returns-2 c = rw (c .before .before .max2 .ensures, c .before .before .before .before .max .ensures) refl
 
 pub moved-spec : {M : Type 1} → statement M
-moved-spec = tie.close (tie.spec less-requires less-requires-2 above-requires returns max-requires max-requires-2 returns-2)
+moved-spec = tie.close (tie.spec less-requires less-requires-2 returns max-requires max-requires-2 returns-2)
