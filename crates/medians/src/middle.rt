@@ -74,8 +74,8 @@ fn within_bracket(run: &[f64], b: Bracket, first: usize, second: usize) -> Middl
 }
 
 // A bracket around the value at a place that has one pattern or at most 64 values. Where more values lie
-// within 2^46 patterns, most are likely to be equal. Cost: some 8 passes over the run, some 20 where many
-// values are equal, and at most 76.
+// within 2^46 patterns, most are likely to be equal. Cost: some 8 passes over a long run, some 20 where many
+// values are equal, and at most 68, beside those over its first 256 values.
 fn near_middle(run: &[f64], place: usize, start: Bracket) -> Bracket
     requires { ⌜ Around (now run) place start × (256 ≤ length (now run)) × Each magnitude (now run) ⌝ }
     ensures { λ r. ⌜ Around (now (run .entry)) place r × (wide r 1 64 ≡ false) ⌝ }

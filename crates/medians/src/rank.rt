@@ -99,7 +99,7 @@ pub(crate) fn guessed(run: &[f64], place: usize, b: Bracket) -> Bracket
 }
 
 // A bracket of some 16 values around the one at a place of a sample, or the widest where that one is not
-// finite. Its ends are only tried, so nothing is promised of them. Cost: at most 64 passes over the sample.
+// finite. Its ends are only tried, so nothing is promised of them. Cost: at most 18 passes over the sample.
 fn around_rank(sample: &[f64], place: usize) -> Bracket
     requires { ⌜ Each magnitude (now sample) ⌝ }
 {
@@ -111,9 +111,9 @@ fn around_rank(sample: &[f64], place: usize) -> Bracket
     narrowed(sample, place, all, 0x4000_0000_0000, 16)
 }
 
-// The bracket split where the first 256 values have two fifths and three fifths below: the middle of the
-// run lies between, but for one run in a thousand. Cost: two passes over the run and some 26 over those
-// values, and at most ten passes in all.
+// The bracket split where the first 256 values have two fifths and three fifths below: where the values have
+// no order, the middle of the run is likely to lie between. Cost: two passes over the run, and at most 36
+// over those 256 values.
 pub(crate) fn sampled(run: &[f64], place: usize, b: Bracket) -> Bracket
     requires { ⌜ Around (now run) place b × (256 ≤ length (now run)) × Each magnitude (now run) ⌝ }
     ensures { λ r. ⌜ Around (now (run .entry)) place r ⌝ }
