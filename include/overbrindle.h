@@ -9,9 +9,16 @@
  * How to call it
  *
  * - A slice is a pointer and the number of its elements. The pointer is never null and is aligned,
- *   also where there are no elements; the elements are initialised; slices and single results that a
- *   call writes to overlap nothing else that it is given. This is all that a caller has to see to:
- *   sizes, settings and readings are checked, and nothing is allocated or kept.
+ *   also where there are no elements; the elements are initialised. A pointer to a single result
+ *   (count, channel, index, reading, length, mean, spread) is never null, is aligned and points to one
+ *   object of its type; what that held before is not read. Slices and single results that a call
+ *   writes to overlap nothing else that it is given.
+ * - The floating-point environment is the one that C starts a program with: rounding to nearest, no
+ *   flush-to-zero, no denormals-are-zero. Another gives other answers: with flush-to-zero
+ *   overbrindle_sqrt(5e-324) is 5e-324 and overbrindle_ln(5e-324) is minus infinity.
+ * - This is all that a caller has to see to: sizes, settings and readings are checked, and nothing is
+ *   allocated or kept. Any number of threads may call at once, on areas of their own. A call needs
+ *   less than 4,096 bytes of stack.
  * - A call returns 0 with an answer, and otherwise the number of the refusal:
  *
  *      1 Penalty    a custom penalty is not finite or not above 0

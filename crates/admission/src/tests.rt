@@ -13,6 +13,9 @@ use readings::all_finite;
 use readings::shape;
 use refusals::Refusal;
 
+// The least that a minimum length may be: less is refusal 2.
+const LEAST_MINIMUM: usize = 2;
+
 fn bad_penalty(penalty: Penalty) -> bool
     ensures { λ r. ⌜ r ≡ badPenalty penalty ⌝ }
 {
@@ -76,7 +79,7 @@ pub fn admitted(
     if bad_penalty(penalty) {
         return Shaped::Refused(Refusal::Penalty);
     }
-    if min_segment_len < 2 {
+    if min_segment_len < LEAST_MINIMUM {
         return Shaped::Refused(Refusal::MinLen);
     }
     match shape(lengths, run.len()) {

@@ -6,7 +6,7 @@ use lib.Dec.{eqb}
 use lib.ListN.{getD, set}
 use lib.Ieee.{Float, nan}
 use Rattle.floats.specs.Numbers.{_+ᶠ_, _-ᶠ_, _*ᶠ_, _<ᶠ_, +0, +∞, -∞}
-use Rattle.floats.specs.MaxMin.{max}
+use Rattle.floats.specs.MaxMin.{larger}
 use Rattle.candidate.specs.declared.Candidate.{Candidate}
 use Rattle.candidate.specs.declared.Ball.{Ball}
 -- one side: a span, what a ball reaches of it, and whether anything is left of it
@@ -45,7 +45,7 @@ alongEach channels step x =
 
 -- the square of the distance from c to a span
 unfoldable pub gap2 : Span → Float → Float
-gap2 s c = let gap = max (max (s .lo -ᶠ c) (c -ᶠ s .hi)) +0 in gap *ᶠ gap
+gap2 s c = let gap = larger (larger (s .lo -ᶠ c) (c -ᶠ s .hi)) +0 in gap *ᶠ gap
 
 -- the ball is empty, or does not reach over the sum of the gaps
 unfoldable pub missed : Float → Float → Bool

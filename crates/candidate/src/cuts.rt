@@ -39,7 +39,7 @@ fn cut_one(mut candidate: Candidate, balls: &[f64], place: usize, count: usize) 
         if x.hi < x.lo {
             return candidate;
         }
-        let cut = cut_by_root(x, balls[place + i], balls[place + 64 + i]);
+        let cut = cut_by_root(x, balls[place + i], balls[place + Candidate::SECONDS + i]);
         candidate = with_first(candidate, cut);
         i += 1;
     }
@@ -61,8 +61,8 @@ fn cut_two(mut candidate: Candidate, balls: &[f64], place: usize, count: usize) 
         candidate = cut_by(
             candidate,
             balls[place + i],
-            balls[place + 64 + i],
-            balls[place + 128 + i],
+            balls[place + Candidate::SECONDS + i],
+            balls[place + Candidate::RADII + i],
         );
         i += 1;
     }

@@ -25,4 +25,12 @@ pub struct Ball {
 impl Candidate {
     // How many of the balls in which it loses a candidate keeps.
     pub const LOSING_BALLS: usize = losing::LOSING_BALLS;
+
+    // The balls stand in an area in three runs: how far from the first the second and the third begin,
+    // and how many floats they take.
+    pub const SECONDS: usize = Candidate::LOSING_BALLS;
+
+    pub const RADII: usize = 2 * Candidate::LOSING_BALLS;
+
+    pub const BALLS: usize = 3 * Candidate::LOSING_BALLS;
 }

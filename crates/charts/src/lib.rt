@@ -6,6 +6,7 @@
 ghost use mathlib.Core.Path.{_≡_};
 ghost use Rattle.charts.specs.Answers.{admittedAs, countOf, signalledAs};
 ghost use Rattle.charts.specs.Contracts.{Noted};
+use refusals::MAX_READINGS;
 use refusals::Refusal;
 
 // The index of an observation in its series, from 0.
@@ -65,7 +66,7 @@ pub fn admitted(accepted: bool, readings: usize, room: usize) -> Charted
     ensures { λ r. ⌜ r ≡ admittedAs accepted readings room ⌝ }
 {
     if accepted {
-        if 4096 < readings {
+        if MAX_READINGS < readings {
             Charted::Refused(Refusal::TooLong)
         } else if room < readings {
             Charted::Refused(Refusal::Room)

@@ -5,7 +5,7 @@ use mathlib.Core.List.{List}
 use lib.Dec.{leb, ltb}
 use lib.ListN.{length, getD}
 use lib.Ieee.{Float, nan}
-use Rattle.floats.specs.Numbers.{_+ᶠ_, _-ᶠ_, +0, whole}
+use Rattle.floats.specs.Numbers.{_+ᶠ_, _-ᶠ_, +0, ofWhole}
 use Rattle.costs.specs.Costs.{costOf}
 use Rattle.costs.specs.declared.CostFunction.{CostFunction}
 use Rattle.costs.specs.declared.Segment.{Segment}
@@ -14,7 +14,7 @@ use Rattle.costs.specs.declared.Segment.{Segment}
 unfoldable pub segmentAt : List Float → ℕ → ℕ → ℕ → ℕ → Segment
 segmentAt area n place a b =
     record {
-      length = whole (b - a);
+      length = ofWhole (b - a);
       sum = getD area (place + b) nan -ᶠ getD area (place + a) nan;
       «sum_of_squares» = getD area (place + (n + 1) + b) nan -ᶠ getD area (place + (n + 1) + a) nan;
     }

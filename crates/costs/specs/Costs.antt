@@ -3,7 +3,7 @@ use Prim.Native.Nat.{ℕ, zero, suc, _-_, _^_}
 use mathlib.Core.Bool.{cond}
 use mathlib.Core.List.{List}
 use lib.Ieee.{Float}
-use Rattle.floats.specs.Numbers.{_+ᶠ_, _-ᶠ_, _*ᶠ_, _/ᶠ_, _≤ᶠ_, +0, whole, ratio}
+use Rattle.floats.specs.Numbers.{_+ᶠ_, _-ᶠ_, _*ᶠ_, _/ᶠ_, _≤ᶠ_, +0, ofWhole, ratio}
 use Rattle.elementary.specs.Logarithm.{ln}
 use Rattle.readings.specs.Channels.{channelOf}
 use Rattle.sums.specs.Sums.{meanOf, centredTo, squaresTo}
@@ -14,7 +14,7 @@ use Rattle.costs.specs.declared.Segment.{Segment}
 -- the readings of a channel from a up to b, without b: differences of the running sums about a mean
 unfoldable pub segmentAbout : List Float → Float → ℕ → ℕ → Segment
 segmentAbout xs mean a b =
-    record { length = whole (b - a); sum = centredTo xs mean b -ᶠ centredTo xs mean a; «sum_of_squares» = squaresTo xs mean b -ᶠ squaresTo xs mean a }
+    record { length = ofWhole (b - a); sum = centredTo xs mean b -ᶠ centredTo xs mean a; «sum_of_squares» = squaresTo xs mean b -ᶠ squaresTo xs mean a }
 
 -- about the channel's mean
 unfoldable pub segmentOf : List Float → ℕ → ℕ → Segment

@@ -1,7 +1,7 @@
 -- The penalty of a change: BIC, or a custom value that it carries. Definitions only.
 use Prim.Native.Nat.{ℕ}
 use lib.Ieee.{Float}
-use Rattle.floats.specs.Numbers.{_*ᶠ_, whole}
+use Rattle.floats.specs.Numbers.{_*ᶠ_, ofWhole}
 use Rattle.elementary.specs.Logarithm.{ln}
 use Rattle.costs.specs.declared.CostFunction.{CostFunction}
 use Rattle.costs.specs.declared.CostFunction.the-variants as CostFunction
@@ -10,10 +10,10 @@ use Rattle.costs.specs.declared.Penalty.the-variants as Penalty
 
 -- BIC: p·ln(n) times the sum of noise variances for L2 (p = 1), times the channels for Normal (p = 2)
 unfoldable pub bicPenalty : CostFunction → ℕ → Float → Float → Float
-bicPenalty CostFunction.L2 n channels noise = whole 1 *ᶠ ln (whole n) *ᶠ noise
-bicPenalty CostFunction.Normal n channels noise = whole 2 *ᶠ ln (whole n) *ᶠ channels
+bicPenalty CostFunction.L2 n channels noise = ofWhole 1 *ᶠ ln (ofWhole n) *ᶠ noise
+bicPenalty CostFunction.Normal n channels noise = ofWhole 2 *ᶠ ln (ofWhole n) *ᶠ channels
 
 -- custom: value times channels
 unfoldable pub penaltyOf : Penalty → CostFunction → ℕ → ℕ → Float → Float
-penaltyOf Penalty.Bic cost n channels noise = bicPenalty cost n (whole channels) noise
-penaltyOf (Penalty.Custom value) cost n channels noise = value *ᶠ whole channels
+penaltyOf Penalty.Bic cost n channels noise = bicPenalty cost n (ofWhole channels) noise
+penaltyOf (Penalty.Custom value) cost n channels noise = value *ᶠ ofWhole channels

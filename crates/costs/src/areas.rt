@@ -8,6 +8,8 @@ ghost use Rattle.costs.specs.Areas.{segmentAt, areaCostTo, segmentFits, 
 use crate::CostFunction;
 use crate::Segment;
 use crate::segments::segment_cost;
+use refusals::MAX_CHANNELS;
+use refusals::MAX_READINGS;
 
 // Whether an area of so many places can hold the sums of such channels, and they such a segment. The
 // limits are tested first, so that no product wraps.
@@ -16,8 +18,8 @@ fn segment_fits(size: usize, n: usize, channels: usize, start: usize, end: usize
 {
     if start < end {
         if end <= n {
-            if n <= 4096 {
-                if channels <= 8 {
+            if n <= MAX_READINGS {
+                if channels <= MAX_CHANNELS {
                     return channels * (2 * (n + 1)) <= size;
                 }
             }

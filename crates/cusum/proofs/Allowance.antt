@@ -14,7 +14,7 @@ use lib.Ieee.Fits.{up-pos, down-pos, and-l, and-r, sub-fits}
 use lib.Ieee.Scale.{finite, grid, round-val, round-under}
 use Rattle.floats.specs.Numbers.{_-ᶠ_, _<ᶠ_, _≤ᶠ_, +0}
 use Rattle.floats.specs.Finite.{abs}
-use Rattle.floats.specs.MaxMin.{max}
+use Rattle.floats.specs.MaxMin.{larger}
 use Rattle.floats.proofs.Order.Extremes.{max-first-nan, max-second, max-first}
 use Rattle.floats.proofs.Order.Fractions.{Leq, le→leq}
 use Rattle.floats.proofs.Order.Laws.{number, le-right, lt→le, not-lt→le, lt-not-le}
@@ -162,17 +162,17 @@ less-no-minus-zero (fin s m e) (fin false (suc n) d) f g h = fin-no-minus-zero m
 
 -- ---- the larger of a value and 0
 -- by a strict test, where the value is no negative zero
-strict-max : (z : Float) → T (fits binary64 z) → minus-zero z ≡ false → cond (+0 <ᶠ z) z +0 ≡ max z +0
+strict-max : (z : Float) → T (fits binary64 z) → minus-zero z ≡ false → cond (+0 <ᶠ z) z +0 ≡ larger z +0
 unfolding abs
 strict-max nan f h = rw (max-first-nan +0) (unfold lt in refl)
-strict-max (inf true) f h = unfold lt max in refl
-strict-max (inf false) f h = unfold lt max ne in refl
+strict-max (inf true) f h = unfold lt larger in refl
+strict-max (inf false) f h = unfold lt larger ne in refl
 strict-max (fin true zero e) f h = absurd (true≢false h)
 strict-max (fin false zero e) f h = rw (zero-not-above false e) (abs-zero (fin false zero e) f (zero-equals false e) ∙ sym (max-first (fin false zero e) +0 tt (zero-not-below false e)))
 strict-max (fin true (suc m) e) f h = rw (some-above true m e) (sym (max-second (fin true (suc m) e) +0 (some-below true m e)))
 strict-max (fin false (suc m) e) f h = rw (some-above false m e) (sym (max-first (fin false (suc m) e) +0 tt (some-below false m e)))
 
-pub strict-less-max : (y k : Float) → T (fits binary64 y) → T (fits binary64 k) → +0 <ᶠ k ≡ true → cond (+0 <ᶠ y -ᶠ k) (y -ᶠ k) +0 ≡ max (y -ᶠ k) +0
+pub strict-less-max : (y k : Float) → T (fits binary64 y) → T (fits binary64 k) → +0 <ᶠ k ≡ true → cond (+0 <ᶠ y -ᶠ k) (y -ᶠ k) +0 ≡ larger (y -ᶠ k) +0
 strict-less-max y k f g h = strict-max (y -ᶠ k) (sub-fits binary64 y k) (less-no-minus-zero y k f g h)
 
 -- it is no NaN
@@ -182,8 +182,8 @@ chosen true b z e = refl
 chosen false true z e = refl
 chosen false false z e = e
 
-pub max-number : (z : Float) → isNan (max z +0) ≡ false
-unfolding max isNan
+pub max-number : (z : Float) → isNan (larger z +0) ≡ false
+unfolding larger isNan
 max-number nan = ap isNan (max-first-nan +0)
 max-number (inf s) = chosen (inf s <ᶠ +0) (ne (inf s) (inf s)) (inf s) refl
 max-number (fin s m e) = chosen (fin s m e <ᶠ +0) (ne (fin s m e) (fin s m e)) (fin s m e) refl

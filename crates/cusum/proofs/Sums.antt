@@ -5,28 +5,28 @@ use lib.Dec.{T}
 use lib.Ieee.{Float, nan, inf, fin, binary64, add, sub, neg, lt, le, ne}
 use lib.Ieee.Scale.{finite}
 use Rattle.floats.specs.Numbers.{_+ᶠ_, _-ᶠ_, +0}
-use Rattle.floats.specs.MaxMin.{max}
+use Rattle.floats.specs.MaxMin.{larger}
 use Rattle.floats.proofs.Order.Laws.{number, le-reflexive, le-left, le-right, not-lt→le, le-then-lt}
 use Rattle.floats.proofs.Order.Sums.{risen, risen-le, risen-add, add-le, sub-le}
 use Rattle.floats.proofs.Order.Extremes.{max-first-nan, max-second, max-first}
 
 -- ---- cut off at zero
-cut-number : (v : Float) → T (number v) → T (le +0 (max v +0))
+cut-number : (v : Float) → T (number v) → T (le +0 (larger v +0))
 cut-number v p = go (lt v +0) refl
   where
-    go : (b : Bool) → lt v +0 ≡ b → T (le +0 (max v +0))
+    go : (b : Bool) → lt v +0 ≡ b → T (le +0 (larger v +0))
     go true e = rw (max-second v +0 e) (le-reflexive +0 tt)
     go false e = rw (max-first v +0 p e) (not-lt→le v +0 p tt (rw e tt))
 
-pub cut-from-zero : (v : Float) → T (le +0 (max v +0))
+pub cut-from-zero : (v : Float) → T (le +0 (larger v +0))
 cut-from-zero nan = rw (max-first-nan +0) (le-reflexive +0 tt)
 cut-from-zero (inf s) = cut-number (inf s) tt
 cut-from-zero (fin s m e) = cut-number (fin s m e) tt
 
-pub cut-le : (a b : Float) → T (le a b) → T (le (max a +0) (max b +0))
+pub cut-le : (a b : Float) → T (le a b) → T (le (larger a +0) (larger b +0))
 cut-le a b h = go (lt a +0) (lt b +0) refl refl
   where
-    go : (p q : Bool) → lt a +0 ≡ p → lt b +0 ≡ q → T (le (max a +0) (max b +0))
+    go : (p q : Bool) → lt a +0 ≡ p → lt b +0 ≡ q → T (le (larger a +0) (larger b +0))
     go true q e f = rw (max-second a +0 e) (cut-from-zero b)
     go false true e f = absurd (true≢false (sym (truth (lt a +0) (le-then-lt a b +0 h (rw f tt))) ∙ e))
       where
@@ -37,10 +37,10 @@ cut-le a b h = go (lt a +0) (lt b +0) refl refl
 
 -- ---- one reading's step
 abbrev pub next : Float → Float → Float → Float
-next k u z = max (u +ᶠ z -ᶠ k) +0
+next k u z = larger (u +ᶠ z -ᶠ k) +0
 
 next-low : (k u : Float) → T (finite k) → T (risen u) → next k u (inf true) ≡ +0
-unfolding max sub add neg lt ne
+unfolding larger sub add neg lt ne
 next-low nan u p q = absurd p
 next-low (inf s) u p q = absurd p
 next-low (fin s m e) nan p q = absurd q

@@ -4,9 +4,9 @@ use mathlib.Core.Bool.{Bool, false, _&&_, _||_, cond}
 use mathlib.Core.List.{List}
 use lib.ListN.{length}
 use lib.Ieee.{Float}
-use Rattle.floats.specs.Numbers.{_+ᶠ_, _-ᶠ_, _/ᶠ_, _<ᶠ_, _≤ᶠ_, +0, whole, ratio}
+use Rattle.floats.specs.Numbers.{_+ᶠ_, _-ᶠ_, _/ᶠ_, _<ᶠ_, _≤ᶠ_, +0, ofWhole, ratio}
 use Rattle.floats.specs.Finite.{finite}
-use Rattle.floats.specs.MaxMin.{max}
+use Rattle.floats.specs.MaxMin.{larger}
 use Rattle.walks.specs.Runs as Runs
 use Rattle.charts.specs.Contracts as Contracts
 use Rattle.charts.specs.declared.Charted.{Charted}
@@ -21,7 +21,7 @@ abbrev pub withParams : Float → Float → Float → Float → Cusum
 withParams target sigma k h = record { target = target; sigma = sigma; k = k; h = h }
 
 unfoldable pub newOf : Float → Float → Cusum
-newOf target sigma = withParams target sigma (ratio 1 2) (whole 5)
+newOf target sigma = withParams target sigma (ratio 1 2) (ofWhole 5)
 
 -- target finite; sigma finite and above 0; k finite, not negative; h finite, above 0
 unfoldable pub accepted : Cusum → Bool
@@ -39,7 +39,7 @@ moved c index upper lower = record { «s_upper» = upper; «s_lower» = lower; s
 unfoldable pub stepOf : Cusum → CusumResult → Observation → Float → CusumResult
 stepOf c before index x =
     cond (finite x)
-    (moved c index (max (before .«s_upper» +ᶠ score c x -ᶠ c .k) +0) (max (before .«s_lower» -ᶠ score c x -ᶠ c .k) +0))
+    (moved c index (larger (before .«s_upper» +ᶠ score c x -ᶠ c .k) +0) (larger (before .«s_lower» -ᶠ score c x -ᶠ c .k) +0))
     (record { «s_upper» = before .«s_upper»; «s_lower» = before .«s_lower»; signal = false; index = index })
 
 -- before the first reading both sums are 0

@@ -9,6 +9,7 @@ use crate::Side;
 use crate::step::start;
 use crate::step::step;
 use charts::Observation;
+use refusals::MAX_READINGS;
 
 fn sum_of(side: Side, after: CusumResult) -> f64
     ensures { λ r. ⌜ r ≡ sumOf side after ⌝ }
@@ -27,7 +28,7 @@ pub(crate) fn listen(chart: Cusum, level: f64, side: Side) -> Heard
     let state = start(chart);
     let mut shown = state.shown;
     let mut reading = 0;
-    while reading < 4096 {
+    while reading < MAX_READINGS {
         shown = step(chart, shown, Observation(reading), level);
         reading += 1;
         if chart.h < sum_of(side, shown) {

@@ -5,7 +5,7 @@ ghost use mathlib.Core.Bool.{true};
 ghost use lib.ListN.{length, getD};
 ghost use lib.Ieee.{nan};
 ghost use Rattle.floats.specs.Numbers.{_+ᶠ_, _-ᶠ_, _<ᶠ_, +0};
-ghost use Rattle.floats.specs.MaxMin.{max};
+ghost use Rattle.floats.specs.MaxMin.{larger};
 ghost use Rattle.charts.specs.Answers.{admittedAs};
 ghost use Rattle.cusum.specs.Chart.{accepted, moved, stepOf, startState, nextState, followingState};
 use crate::Cusum;
@@ -36,7 +36,7 @@ pub fn judge(chart: Cusum, readings: usize, room: usize) -> Charted
 // is above 0, so that this is the larger of the two, and one instruction.
 fn less(sum: f64, k: f64) -> f64
     requires { ⌜ +0 <ᶠ k ≡ true ⌝ }
-    ensures { λ r. ⌜ r ≡ max (sum -ᶠ k) +0 ⌝ }
+    ensures { λ r. ⌜ r ≡ larger (sum -ᶠ k) +0 ⌝ }
 {
     let left = sum - k;
     if 0.0 < left { left } else { 0.0 }
@@ -44,7 +44,7 @@ fn less(sum: f64, k: f64) -> f64
 
 // The record of a reading that lies z from the target.
 fn moved(chart: Cusum, before: CusumResult, index: Observation, z: f64) -> CusumResult
-    ensures { λ r. ⌜ r ≡ moved chart index (max (before .«s_upper» +ᶠ z -ᶠ chart .k) +0) (max (before .«s_lower» -ᶠ z -ᶠ chart .k) +0) ⌝ }
+    ensures { λ r. ⌜ r ≡ moved chart index (larger (before .«s_upper» +ᶠ z -ᶠ chart .k) +0) (larger (before .«s_lower» -ᶠ z -ᶠ chart .k) +0) ⌝ }
 {
     let upper = before.s_upper + z;
     let lower = before.s_lower - z;

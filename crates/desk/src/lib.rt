@@ -122,21 +122,21 @@ pub extern "C" fn overbrindle_detect_multi_strict(
     told.number
 }
 
-// The length, mean and spread of the readings of a channel from start up to end, without end; zeros
-// on a refusal.
+// How many readings the piece of a channel from `start` up to `end` has, without `end`, their mean and
+// their spread; zeros on a refusal.
 #[no_mangle]
 pub extern "C" fn overbrindle_piece_summary(
     channel: &[f64],
     start: usize,
     end: usize,
-    length: &mut usize,
+    readings: &mut usize,
     mean: &mut f64,
     spread: &mut f64,
 ) -> u32
-    ensures { λ r. ⌜ pieceAs r (now (length .exit)) (now (mean .exit)) (now (spread .exit)) ≡ pieceOf (summarisedAs (now (channel .entry)) start end) ⌝ }
+    ensures { λ r. ⌜ pieceAs r (now (readings .exit)) (now (mean .exit)) (now (spread .exit)) ≡ pieceOf (summarisedAs (now (channel .entry)) start end) ⌝ }
 {
     let told = told::piece(piece::summary(channel, start, end));
-    *length = told.length;
+    *readings = told.length;
     *mean = told.mean;
     *spread = told.spread;
     told.number

@@ -4,8 +4,8 @@ use mathlib.Core.Path.{_≡_, refl}
 use mathlib.Core.Bool.{true, false}
 use mathlib.Core.List.{List, [], _∷_, _++_, map}
 use lib.Ieee.{Float, nan, neg, eq, ne, lt, le, size, add, sub, mul, div, ofInt}
-use Rattle.floats.specs.Numbers.{whole, ratio}
-use Rattle.floats.specs.MaxMin.{max, min}
+use Rattle.floats.specs.Numbers.{ofWhole, ratio}
+use Rattle.floats.specs.MaxMin.{larger, smaller}
 use Rattle.floats.specs.Finite.{abs}
 use Rattle.elementary.specs.Root.{sqrt}
 use Rattle.readings.specs.Parts.{part}
@@ -23,7 +23,7 @@ use Rattle.dominance.specs.Partitioned.{slotsSuffice}
 
 -- the search, opened: to unfold it is to unfold all that the line names
 search : Task → State
-unfolding functional stateAfter stepOf livingAfter joinOf joinedBy born rangeBox rangeAlong winnersTo cutBack restricted lostTo facing slackOf besides centreAlong bestAt places price scanTo betterOf noneYet costTo costOf l2Cost segmentOf segmentAbout channelOf hasChannel part meanOf sumTo centred centredTo squaresTo lowestTo highestTo rangeOf max min abs sqrt spanAt withSpan overChannels alongEach gap2 narrowed missed nothing restrict isDominated ahead narrowestTo displace loseInside far2 inside moved cutEnds cutSpan cutBy cutTo cutLosing ratio size add sub mul div lt le eq ne neg ofInt
+unfolding functional stateAfter stepOf livingAfter joinOf joinedBy born rangeBox rangeAlong winnersTo cutBack restricted lostTo facing slackOf besides centreAlong bestAt places price scanTo betterOf noneYet costTo costOf l2Cost segmentOf segmentAbout channelOf hasChannel part meanOf sumTo centred centredTo squaresTo lowestTo highestTo rangeOf larger smaller abs sqrt spanAt withSpan overChannels alongEach gap2 narrowed missed nothing restrict isDominated ahead narrowestTo displace loseInside far2 inside moved cutEnds cutSpan cutBy cutTo cutLosing ratio size add sub mul div lt le eq ne neg ofInt
 search k = functional k
 
 -- m is 2, so that the first step is t = 2
@@ -32,16 +32,16 @@ row channels n run penalty = record { run = run; n = n; channels = channels; m =
 
 -- ---- 0 0 4 4
 abbrev step : List Float
-step = whole 0 ∷ whole 0 ∷ whole 4 ∷ whole 4 ∷ []
+step = ofWhole 0 ∷ ofWhole 0 ∷ ofWhole 4 ∷ ofWhole 4 ∷ []
 
 -- with custom 1 the candidate 0 is dominated when 3 joins, and dropped
-one-is-dropped : map (λ d. places (stateAfter (row 1 4 step (whole 1)) d .living)) (2 ∷ 3 ∷ []) ≡ (0 ∷ 2 ∷ []) ∷ (2 ∷ 3 ∷ []) ∷ []
+one-is-dropped : map (λ d. places (stateAfter (row 1 4 step (ofWhole 1)) d .living)) (2 ∷ 3 ∷ []) ≡ (0 ∷ 2 ∷ []) ∷ (2 ∷ 3 ∷ []) ∷ []
 unfolding search
 one-is-dropped = refl
 
 -- ---- 0 NaN 4 4, custom 1
 abbrev gap : Task
-gap = row 1 4 (whole 0 ∷ nan ∷ whole 4 ∷ whole 4 ∷ []) (whole 1)
+gap = row 1 4 (ofWhole 0 ∷ nan ∷ ofWhole 4 ∷ ofWhole 4 ∷ []) (ofWhole 1)
 
 -- nobody is dropped, so all births show: after t = 2, where b = 1 is below m, after t = 3 and after t = 4
 all-births : map (λ d. places (stateAfter gap d .living)) (1 ∷ 2 ∷ 3 ∷ []) ≡ (0 ∷ []) ∷ (0 ∷ 2 ∷ []) ∷ (0 ∷ 2 ∷ 3 ∷ []) ∷ []
@@ -54,11 +54,11 @@ unfolding search slotsSuffice
 three-slots = refl
 
 -- ---- 0 0 4 4 0 0, custom 1: the cuts are 4 and, before it, 2
-two-cuts : functional (row 1 6 (step ++ (whole 0 ∷ whole 0 ∷ [])) (whole 1)) .last ≡ 0 ∷ 0 ∷ 0 ∷ 0 ∷ 2 ∷ 2 ∷ 4 ∷ []
+two-cuts : functional (row 1 6 (step ++ (ofWhole 0 ∷ ofWhole 0 ∷ [])) (ofWhole 1)) .last ≡ 0 ∷ 0 ∷ 0 ∷ 0 ∷ 2 ∷ 2 ∷ 4 ∷ []
 unfolding search
 two-cuts = refl
 
 -- ---- two channels that both step, custom 1
-both-step : functional (row 2 4 (step ++ step) (whole 2)) .last ≡ 0 ∷ 0 ∷ 0 ∷ 0 ∷ 2 ∷ []
+both-step : functional (row 2 4 (step ++ step) (ofWhole 2)) .last ≡ 0 ∷ 0 ∷ 0 ∷ 0 ∷ 2 ∷ []
 unfolding search
 both-step = refl

@@ -5,7 +5,7 @@ use mathlib.Core.List.{List, [], _∷_, _++_, map}
 use lib.Dec.{eqb, leb}
 use lib.ListN.{length, getD, set, replicate}
 use lib.Ieee.{Float, nan, neg}
-use Rattle.floats.specs.Numbers.{_+ᶠ_, _-ᶠ_, _*ᶠ_, _/ᶠ_, +0, whole, ratio}
+use Rattle.floats.specs.Numbers.{_+ᶠ_, _-ᶠ_, _*ᶠ_, _/ᶠ_, +0, ofWhole, ratio}
 use Rattle.floats.specs.Finite.{abs}
 use Rattle.readings.specs.Channels.{channelOf}
 use Rattle.sums.specs.Sums.{meanOf}
@@ -71,7 +71,7 @@ slackOf fb fa cost penalty len = ratio 1 (10 ^ 9) *ᶠ (abs fb +ᶠ abs fa +ᶠ 
 -- a ball about the mean between them: a can still win only inside the outer one, which is a little wider, and b loses inside the inner one, which is a little narrower
 unfoldable pub facing : Task → List Float → ℕ → ℕ → Facing
 facing k f a b =
-    let len = whole (b - a) in
+    let len = ofWhole (b - a) in
     let cost = price k a b in
     let fa = getD f a nan in
     let fb = getD f b nan in

@@ -1,7 +1,7 @@
 -- Whole powers by right-to-left squaring. Definitions only.
 use Prim.Native.Nat.{ℕ, zero, suc, _/_, _%_}
 use lib.Ieee.{Float}
-use Rattle.floats.specs.Numbers.{_*ᶠ_, whole}
+use Rattle.floats.specs.Numbers.{_*ᶠ_, ofWhole}
 
 -- the result, multiplied by the base if the bit is set
 abbrev pub timesIf : ℕ → Float → Float → Float
@@ -16,4 +16,4 @@ powFrom (suc k) (suc n) base result = powFrom k (suc n / 2) (base *ᶠ base) (ti
 
 -- x to the power n: the result is 1 at first
 unfoldable pub powi : Float → ℕ → Float
-powi x n = powFrom n n x (whole 1)
+powi x n = powFrom n n x (ofWhole 1)

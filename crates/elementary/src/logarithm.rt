@@ -3,14 +3,14 @@ ghost use mathlib.Core.Path.{_≡_};
 ghost use Prim.Native.Nat.{_≤_, _<_};
 ghost use lib.IntN.{pos, _-ℤ_};
 ghost use lib.Ieee.{binary64, ofInt};
-ghost use Rattle.floats.specs.Numbers.{_/ᶠ_, whole};
+ghost use Rattle.floats.specs.Numbers.{_/ᶠ_, ofWhole};
 ghost use Rattle.elementary.specs.Logarithm.{series, lnOf, lnScaled, ln};
 use crate::parts::parts_of;
 use crate::parts::placed;
 
 // The sum of z^j / (2j + 1) for j up to 10, from the last term on.
 fn series(z: f64) -> f64
-    ensures { λ r. ⌜ r ≡ series 10 z (whole 1 /ᶠ whole 21) ⌝ }
+    ensures { λ r. ⌜ r ≡ series 10 z (ofWhole 1 /ᶠ ofWhole 21) ⌝ }
 {
     let p = 1.0 / 21.0;
     let p = p * z + 1.0 / 19.0;

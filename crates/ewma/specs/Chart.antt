@@ -4,7 +4,7 @@ use mathlib.Core.Bool.{Bool, false, _&&_, _||_, cond}
 use mathlib.Core.List.{List}
 use lib.ListN.{length}
 use lib.Ieee.{Float}
-use Rattle.floats.specs.Numbers.{_+ᶠ_, _-ᶠ_, _*ᶠ_, _/ᶠ_, _<ᶠ_, _≤ᶠ_, +0, whole, ratio}
+use Rattle.floats.specs.Numbers.{_+ᶠ_, _-ᶠ_, _*ᶠ_, _/ᶠ_, _<ᶠ_, _≤ᶠ_, +0, ofWhole, ratio}
 use Rattle.floats.specs.Finite.{finite}
 use Rattle.elementary.specs.Root.{sqrt}
 use Rattle.elementary.specs.Power.{powi}
@@ -22,12 +22,12 @@ abbrev pub withParams : Float → Float → Float → Float → Ewma
 withParams target sigma lambda factor = record { target = target; sigma = sigma; lambda = lambda; «l_factor» = factor }
 
 unfoldable pub newOf : Float → Float → Ewma
-newOf target sigma = withParams target sigma (ratio 1 5) (whole 3)
+newOf target sigma = withParams target sigma (ratio 1 5) (ofWhole 3)
 
 -- target finite; sigma finite and above 0; lambda in (0, 1]; L finite, above 0
 unfoldable pub accepted : Ewma → Bool
 accepted c =
-    finite (c .target) && (finite (c .sigma) && +0 <ᶠ c .sigma) && (+0 <ᶠ c .lambda && c .lambda ≤ᶠ whole 1) && (finite (c .«l_factor») && +0 <ᶠ c .«l_factor»)
+    finite (c .target) && (finite (c .sigma) && +0 <ᶠ c .sigma) && (+0 <ᶠ c .lambda && c .lambda ≤ᶠ ofWhole 1) && (finite (c .«l_factor») && +0 <ᶠ c .«l_factor»)
 
 -- an index counts from 0, a place from 1
 abbrev pub placeOf : Observation → Place
@@ -36,7 +36,7 @@ placeOf index = record { 0 = suc (index .0) }
 -- half the distance of the limits at a place: L·sigma times the root of lambda / (2 - lambda) · (1 - (1 - lambda)^(2·place))
 unfoldable pub halfWidth : Ewma → Place → Float
 halfWidth c place =
-    c .«l_factor» *ᶠ c .sigma *ᶠ sqrt (c .lambda /ᶠ (whole 2 -ᶠ c .lambda) *ᶠ (whole 1 -ᶠ powi (whole 1 -ᶠ c .lambda) (2 * place .0)))
+    c .«l_factor» *ᶠ c .sigma *ᶠ sqrt (c .lambda /ᶠ (ofWhole 2 -ᶠ c .lambda) *ᶠ (ofWhole 1 -ᶠ powi (ofWhole 1 -ᶠ c .lambda) (2 * place .0)))
 
 -- the record of a statistic with limits so far from the target
 abbrev pub within : Ewma → Observation → Float → Bool → Float → EwmaResult
@@ -48,7 +48,7 @@ outside c half ewma = (c .target +ᶠ half <ᶠ ewma) || (ewma <ᶠ c .target -�
 
 -- the statistic moves on to a reading: lambda·x + (1 - lambda)·before
 abbrev pub averaged : Ewma → Float → Float → Float
-averaged c before x = c .lambda *ᶠ x +ᶠ (whole 1 -ᶠ c .lambda) *ᶠ before
+averaged c before x = c .lambda *ᶠ x +ᶠ (ofWhole 1 -ᶠ c .lambda) *ᶠ before
 
 -- the record of the reading x after another record; a gap carries the statistic forward, without a signal
 unfoldable pub stepOf : Ewma → EwmaResult → Observation → Float → EwmaResult

@@ -5,7 +5,7 @@ use mathlib.Core.List.{List}
 use lib.Dec.{leb}
 use lib.IntN.{negsuc}
 use lib.Ieee.{Float, fin}
-use Rattle.floats.specs.Numbers.{_-ᶠ_, _*ᶠ_, _/ᶠ_, _≤ᶠ_, whole}
+use Rattle.floats.specs.Numbers.{_-ᶠ_, _*ᶠ_, _/ᶠ_, _≤ᶠ_, ofWhole}
 use Rattle.floats.specs.Finite.{finite}
 use Rattle.elementary.specs.Root.{sqrt}
 use Rattle.walks.specs.Runs as Runs
@@ -19,7 +19,7 @@ use Rattle.ewma.specs.Chart.{halfWidth, placeOf, within, outside, averag
 
 -- half the distance of the limits where the statistic has a share of its variance at rest; at a place that share is 1 less the decay
 unfoldable pub widthAt : Ewma → Float → Float
-widthAt c share = c .«l_factor» *ᶠ c .sigma *ᶠ sqrt (c .lambda /ᶠ (whole 2 -ᶠ c .lambda) *ᶠ share)
+widthAt c share = c .«l_factor» *ᶠ c .sigma *ᶠ sqrt (c .lambda /ᶠ (ofWhole 2 -ᶠ c .lambda) *ᶠ share)
 
 -- 2 ^ -54: 1 less a decay of that size, or a smaller one, is 1
 abbrev pub faint : Float
@@ -32,7 +32,7 @@ settledFrom (suc k) place decay = elim (decay ≤ᶠ faint) [ true ↦ place | f
 
 -- the same for a chart, from place 1 on; a decay above 1 never settles, and no chart reaches place 8,192
 unfoldable pub settledOf : Ewma → Settled
-settledOf c = let kept = whole 1 -ᶠ c .lambda in record { from = settledFrom 13 1 (kept *ᶠ kept); «half_width» = widthAt c (whole 1) }
+settledOf c = let kept = ofWhole 1 -ᶠ c .lambda in record { from = settledFrom 13 1 (kept *ᶠ kept); «half_width» = widthAt c (ofWhole 1) }
 
 -- the width at a place: the one at rest from there on, and before it the place's own
 unfoldable pub widthFrom : Ewma → Settled → Place → Float

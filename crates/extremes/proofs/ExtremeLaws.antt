@@ -11,16 +11,16 @@ use lib.Dec.{T}
 use lib.ListN.{getD, length}
 use lib.Ieee.{Float, nan, inf, fin, ne, lt}
 use lib.Ieee.Compare.{differs-from-itself}
-use Rattle.floats.specs.MaxMin.{max, min}
+use Rattle.floats.specs.MaxMin.{larger, smaller}
 use Rattle.extremes.specs.declared.Range.{Range}
 use Rattle.extremes.specs.Extremes.{lowestTo, highestTo, rangeOf}
 use Rattle.extremes.specs.Blocks.{beyond, Within, Taken}
 
-pub lowest-more : (xs : List Float) (i : ℕ) (m : Float) → m ≡ lowestTo xs i → min m (getD xs i nan) ≡ lowestTo xs (i + 1)
+pub lowest-more : (xs : List Float) (i : ℕ) (m : Float) → m ≡ lowestTo xs i → smaller m (getD xs i nan) ≡ lowestTo xs (i + 1)
 unfolding lowestTo
 lowest-more xs i m e = rw (add-one, e)
 
-pub highest-more : (xs : List Float) (i : ℕ) (m : Float) → m ≡ highestTo xs i → max m (getD xs i nan) ≡ highestTo xs (i + 1)
+pub highest-more : (xs : List Float) (i : ℕ) (m : Float) → m ≡ highestTo xs i → larger m (getD xs i nan) ≡ highestTo xs (i + 1)
 unfolding highestTo
 highest-more xs i m e = rw (add-one, e)
 
@@ -64,12 +64,12 @@ higher-number : (x y : Float) → lt y x ≡ true → ne x x ≡ false
 higher-number x y e = is-number x (λ h. false≢true (sym (below-nan y) ∙ ap (lt y) (sym h) ∙ e))
 
 lowest-number : (xs : List Float) (i : ℕ) → ne (lowestTo xs i) (lowestTo xs i) ≡ false
-unfolding lowestTo min ne
+unfolding lowestTo smaller ne
 lowest-number xs zero = refl
 lowest-number xs (suc i) = pick-number lt lower-number (lowestTo xs i) (getD xs i nan) (lowest-number xs i)
 
 highest-number : (xs : List Float) (i : ℕ) → ne (highestTo xs i) (highestTo xs i) ≡ false
-unfolding highestTo max ne
+unfolding highestTo larger ne
 highest-number xs zero = refl
 highest-number xs (suc i) = pick-number (λ (x m : Float). lt m x) higher-number (highestTo xs i) (getD xs i nan) (highest-number xs i)
 
@@ -84,7 +84,7 @@ neither true b e = absurd (true≢false e)
 neither false b e = (refl, e)
 
 pub taken-on : (xs : List Float) (i end : ℕ) (r : Range) → Taken xs i r → Within xs i end r → i ≤ end → Taken xs end r
-unfolding lowestTo highestTo min max
+unfolding lowestTo highestTo smaller larger
 taken-on xs i end r t w l =
     let e : i + (end - i) ≡ end = omega arith in
     record {

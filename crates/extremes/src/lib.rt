@@ -73,15 +73,18 @@ fn range_after(channel: &[f64], start: usize, end: usize, range: Range) -> Range
     range
 }
 
-// Where a block of readings that begins at a place ends.
+// How many readings are passed over at once where they lie within the range so far.
+const BLOCK: usize = 64;
+
+// Where a block of readings that begins at `start` ends, in a channel of `size` readings.
 fn block_end(start: usize, size: usize) -> usize
     requires { ⌜ start < size ⌝ }
     ensures { λ r. ⌜ (start < r) × (r ≤ size) ⌝ }
 {
-    if size - start < 64 {
+    if size - start < BLOCK {
         return size;
     }
-    start + 64
+    start + BLOCK
 }
 
 // The lowest and the highest reading, NaNs passed over; +infinity and -infinity where there is no

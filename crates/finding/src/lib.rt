@@ -6,8 +6,6 @@
 mod cuts;
 mod search;
 
+pub use functional::FUNCTIONAL_MAX_CHANNELS;
 pub use search::find_cuts;
 pub use searches::Searched;
-
-// The most channels on which the L2 cost takes the functional search.
-pub const FUNCTIONAL_MAX_CHANNELS: usize = 2;

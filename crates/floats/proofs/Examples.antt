@@ -3,7 +3,7 @@ use Prim.Native.Nat.{ℕ}
 use mathlib.Core.Path.{_≡_, refl}
 use mathlib.Core.List.{[], _∷_, map}
 use lib.Ieee.{Float, binary64, ofBits, toBits, lt, ne}
-use Rattle.floats.specs.MaxMin.{max, min}
+use Rattle.floats.specs.MaxMin.{larger, smaller}
 
 -- a function on values, by bit patterns
 unfoldable pub by-bits : (Float → Float) → ℕ → ℕ
@@ -11,9 +11,9 @@ by-bits f b = toBits binary64 (f (ofBits binary64 b))
 
 -- of a NaN the other operand, of equals the first, zeros of either sign among them
 both : ℕ × ℕ → ℕ × ℕ
-both c = (by-bits (λ (x : Float). max x (ofBits binary64 (c .1))) (c .0), by-bits (λ (x : Float). min x (ofBits binary64 (c .1))) (c .0))
+both c = (by-bits (λ (x : Float). larger x (ofBits binary64 (c .1))) (c .0), by-bits (λ (x : Float). smaller x (ofBits binary64 (c .1))) (c .0))
 
 extremes : map both ((0x3ff0000000000000, 0x4000000000000000) ∷ (0x7ff8000000000000, 0x4000000000000000) ∷ (0x4000000000000000, 0x7ff8000000000000) ∷ (0x0, 0x8000000000000000) ∷ (0x8000000000000000, 0x0) ∷ [])
     ≡ (0x4000000000000000, 0x3ff0000000000000) ∷ (0x4000000000000000, 0x4000000000000000) ∷ (0x4000000000000000, 0x4000000000000000) ∷ (0x0, 0x0) ∷ (0x8000000000000000, 0x8000000000000000) ∷ []
-unfolding both by-bits max min toBits ofBits lt ne
+unfolding both by-bits larger smaller toBits ofBits lt ne
 extremes = refl

@@ -4,9 +4,9 @@ use lib.Ieee.{Float, ne}
 use Rattle.floats.specs.Numbers.{_<ᶠ_}
 
 -- y where x is below it or x is NaN, and x otherwise
-unfoldable pub max : Float → Float → Float
-max x y = cond (x <ᶠ y) y (cond (ne x x) y x)
+unfoldable pub larger : Float → Float → Float
+larger x y = cond (x <ᶠ y) y (cond (ne x x) y x)
 
 -- y where it is below x or x is NaN, and x otherwise
-unfoldable pub min : Float → Float → Float
-min x y = cond (y <ᶠ x) y (cond (ne x x) y x)
+unfoldable pub smaller : Float → Float → Float
+smaller x y = cond (y <ᶠ x) y (cond (ne x x) y x)

@@ -37,8 +37,8 @@ abbrev pub -∞ : Float
 -∞ = inf true
 
 -- a whole number as a float
-abbrev pub whole : ℕ → Float
-whole n = ofInt binary64 (pos n)
+abbrev pub ofWhole : ℕ → Float
+ofWhole n = ofInt binary64 (pos n)
 
 -- what a decimal literal stands for: the number nearest to the fraction a / b
 unfoldable pub ratio : ℕ → ℕ → Float

@@ -6,7 +6,7 @@ use native.Mathlib.Omega.{arith}
 use borrow.Author.Tests.{eq-eqb, ne-eqb}
 use lib.ListN.{length, getD}
 use lib.Ieee.{Float, nan}
-use Rattle.floats.specs.Numbers.{_+ᶠ_, _-ᶠ_, _/ᶠ_, +0, whole}
+use Rattle.floats.specs.Numbers.{_+ᶠ_, _-ᶠ_, _/ᶠ_, +0, ofWhole}
 use Rattle.sums.specs.EachChannel.{Sums}
 use Rattle.costs.specs.Areas.{segmentAt, areaCost}
 use Rattle.costs.specs.declared.Segment.{Segment}
@@ -18,7 +18,7 @@ use Rattle.dominance.specs.Functional.{price, centreAlong, besides, slackOf, fa
 use Rattle.functional.specs.Held.{Room, task}
 
 pub mean-held : (run : List Float) (q : Plan) (xs : List Float) (channel place a b : ℕ) → Sums run (q .n) (q .channels) xs → channel < q .channels → place ≡ channel * (2 * (q .n + 1))
-    → a < b → b ≤ q .n → (getD xs (place + b) nan -ᶠ getD xs (place + a) nan) /ᶠ whole (b - a) ≡ centreAlong (task run q) channel a b
+    → a < b → b ≤ q .n → (getD xs (place + b) nan -ᶠ getD xs (place + a) nan) /ᶠ ofWhole (b - a) ≡ centreAlong (task run q) channel a b
 unfolding centreAlong segmentAt
 mean-held run q xs channel place a b s h e l m =
     rw e (ap (λ (g : Segment). g .sum /ᶠ g .length) (held-segment a b (s .channel channel h) (omega arith) m))
@@ -38,7 +38,7 @@ unfolding price
 price-held run q xs li lp a b r s h l = cost-of-run L2 a b s h l (r .short) (omega arith) (omega arith)
 
 pub facing-from : (run : List Float) (q : Plan) (f : List Float) (a b : ℕ) (fa fb cost len slack cx cy : Float) → fa ≡ getD f a nan → fb ≡ getD f b nan → cost ≡ price (task run q) a b
-    → len ≡ whole (b - a) → slack ≡ slackOf fb fa cost (q .penalty) len → cx ≡ centreAlong (task run q) 0 a b
+    → len ≡ ofWhole (b - a) → slack ≡ slackOf fb fa cost (q .penalty) len → cx ≡ centreAlong (task run q) 0 a b
     → cy ≡ besides (task run q) (centreAlong (task run q) 1 a b)
     → _≡_ {A = Facing} (record { cx = cx; cy = cy; outer = (fb -ᶠ fa -ᶠ cost) /ᶠ len +ᶠ slack; inner = (fb -ᶠ fa -ᶠ cost) /ᶠ len -ᶠ slack }) (facing (task run q) f a b)
 unfolding facing

@@ -20,7 +20,7 @@ use Rattle.recurrence.proofs.All.{all-at}
 use Rattle.recurrence.proofs.MinimumLaws.{scan-takes}
 use Rattle.functional.specs.declared.Plan.{Plan}
 use Rattle.dominance.specs.Functional.{Task, Living, State, price, places, bestAt, livingAt, joinOf, livingAfter, stepOf, stateAfter, functional}
-use Rattle.functional.specs.Held.{Room, task, livedAt, lived, BallsOf, Sane, Below, Joins, taus, Holds, Stepped, Searched}
+use Rattle.functional.specs.Held.{Room, task, livedAt, lived, BallsOf, Sane, AllBelow, Joins, taus, Holds, Stepped, Searched}
 use Rattle.functional.proofs.BirthLaws.{lived-long}
 use Rattle.dominance.proofs.SoundLaws.{places-length, places-at, placed-after}
 use Rattle.dominance.proofs.PeakLaws.{peak-within, slots-too-few, slots-enough}
@@ -52,7 +52,7 @@ scanned-more total ix w count j tau v best next e h f g p =
     p ∙ (rw (e, g) (sym (scan-takes (λ x. true) total (taus ix w count) j refl ∙ ap (λ (x : ℕ). betterOf (scanTo (λ y. true) total (taus ix w count) j) (total x) x) same)))
 
 -- ---- every living candidate may be the predecessor of t
-pub lives-below : {run : List Float} {q : Plan} {xs : List Float} {ix : List ℕ} {pool : List Float} {count t : ℕ} (x : ℕ) → Holds run q xs ix pool count t → 0 < x → t < x + q .m → Below x ix (q .n + 1) count
+pub lives-below : {run : List Float} {q : Plan} {xs : List Float} {ix : List ℕ} {pool : List Float} {count t : ℕ} (x : ℕ) → Holds run q xs ix pool count t → 0 < x → t < x + q .m → AllBelow x ix (q .n + 1) count
 lives-below {run} {q} {xs} {ix} {pool} {count} {t} x h l g =
     record { below = λ j i. rw (← lived-tau (q .channels) pool ix (q .n + 1) count j i) (at j i) }
   where
@@ -78,7 +78,7 @@ sane-kept : {channels : ℕ} {pool : List Float} (ix : List ℕ) {w count : ℕ}
 unfolding BallsOf livedAt
 sane-kept ix {w} t v h s = record { each = λ j l. rw (getD-set-other ix t (2 * w + j) v 0 (omega arith)) (s .each j l) }
 
-below-kept : {x : ℕ} (ix : List ℕ) {w count : ℕ} (t v : ℕ) → t < w → Below x ix w count → Below x (set ix t v) w count
+below-kept : {x : ℕ} (ix : List ℕ) {w count : ℕ} (t v : ℕ) → t < w → AllBelow x ix w count → AllBelow x (set ix t v) w count
 below-kept ix {w} t v h b = record { below = λ j l. rw (getD-set-other ix t (w + j) v 0 (omega arith)) (b .below j l) }
 
 -- ---- the state after a step, by its parts
@@ -188,7 +188,7 @@ module _ (run : List Float) (q : Plan) (xs : List Float) (ix : List ℕ) (pool :
   pub sane-marked : Sane (q .channels) pool marked (q .n + 1) count
   sane-marked = sane-kept ix t (best .tau) (omega arith) (h .sane)
 
-  pub below-marked : q .m ≤ t + 1 - q .m → Below (t + 1 - q .m) marked (q .n + 1) count
+  pub below-marked : q .m ≤ t + 1 - q .m → AllBelow (t + 1 - q .m) marked (q .n + 1) count
   below-marked l = below-kept ix t (best .tau) (omega arith) (lives-below (t + 1 - q .m) h (omega (arith, room .some)) (omega (arith, h .from)))
 
 -- ---- all steps

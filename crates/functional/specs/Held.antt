@@ -6,7 +6,7 @@ use mathlib.Core.List.{List, [], _∷_, _++_}
 use lib.Dec.{leb, ltb}
 use lib.ListN.{length, getD, set, drop}
 use lib.Ieee.{Float, nan}
-use Rattle.floats.specs.Numbers.{_+ᶠ_, _-ᶠ_, _*ᶠ_, _/ᶠ_, +0, whole, ratio}
+use Rattle.floats.specs.Numbers.{_+ᶠ_, _-ᶠ_, _*ᶠ_, _/ᶠ_, +0, ofWhole, ratio}
 use Rattle.floats.specs.Finite.{abs}
 use Rattle.readings.specs.Parts.{part, tab, Frame}
 use Rattle.sums.specs.EachChannel.{Sums}
@@ -172,7 +172,7 @@ pub record Settled (channels : ℕ) (pool pool′ : List Float) (ix ix′ : List
   pub stays : isDominated channels (c .box) ≡ false → (r ≡ j + 1) × ((word : ℕ) × Stored channels pool pool′ ix ix′ w j c word)
 
 -- each of the places is below t
-pub record Below (t : ℕ) (ix : List ℕ) (w count : ℕ) : Type 0 where
+pub record AllBelow (t : ℕ) (ix : List ℕ) (w count : ℕ) : Type 0 where
   pub below : (j : ℕ) → j < count → getD ix (w + j) 0 < t
 
 -- those of the first j that are left once cut by their balls

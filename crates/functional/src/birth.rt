@@ -5,7 +5,7 @@ ghost use lib.ListN.{length};
 ghost use Rattle.sums.specs.EachChannel.{Sums};
 ghost use Rattle.candidate.specs.Balls.{ballsAt};
 ghost use Rattle.dominance.specs.Functional.{rangeBox};
-ghost use Rattle.functional.specs.Held.{Room, task, Balls, Sane, Below, Placed, Wide, bornFrom, Borne, Joins};
+ghost use Rattle.functional.specs.Held.{Room, task, Balls, Sane, AllBelow, Placed, Wide, bornFrom, Borne, Joins};
 use crate::Plan;
 use crate::faces::face_all;
 use crate::losing::lose_all;
@@ -73,7 +73,7 @@ pub(crate) fn birth(
     count: usize,
     b: usize,
 ) -> usize
-    requires { ⌜ (b ≤ plan .n) × (count ≤ plan .slots) × (count ≤ plan .n) × Sums (now run) (plan .n) (plan .channels) (now floats) × Room plan (length (now floats)) (length (now indices)) (length (now pool)) × Below b (now indices) (plan .n + 1) count × Sane (plan .channels) (now pool) (now indices) (plan .n + 1) count × (length (now born) ≡ 192) × (plan .range ≡ rangeBox (task (now run) plan)) ⌝ }
+    requires { ⌜ (b ≤ plan .n) × (count ≤ plan .slots) × (count ≤ plan .n) × Sums (now run) (plan .n) (plan .channels) (now floats) × Room plan (length (now floats)) (length (now indices)) (length (now pool)) × AllBelow b (now indices) (plan .n + 1) count × Sane (plan .channels) (now pool) (now indices) (plan .n + 1) count × (length (now born) ≡ 192) × (plan .range ≡ rangeBox (task (now run) plan)) ⌝ }
     ensures { λ r. ⌜ Joins (now (run .entry)) plan (now (floats .entry)) (now (pool .entry)) (now (pool .exit)) (now (indices .entry)) (now (indices .exit)) count b r ⌝ }
 {
     let channels = plan.channels;

@@ -3,11 +3,11 @@ ghost use mathlib.Core.Path.{_≡_};
 ghost use Prim.Native.Nat.{ℕ, _+_, _-_, _*_, _≤_, _<_};
 ghost use lib.ListN.{length, getD};
 ghost use lib.Ieee.{nan};
-ghost use Rattle.floats.specs.Numbers.{_-ᶠ_, _/ᶠ_, whole};
+ghost use Rattle.floats.specs.Numbers.{_-ᶠ_, _/ᶠ_, ofWhole};
 ghost use Rattle.readings.specs.Parts.{part};
 ghost use Rattle.sums.specs.EachChannel.{Sums};
 ghost use Rattle.dominance.specs.Functional.{facing, besides, centreAlong};
-ghost use Rattle.functional.specs.Held.{Room, task, putFacing, Below, Mapped};
+ghost use Rattle.functional.specs.Held.{Room, task, putFacing, AllBelow, Mapped};
 use crate::Plan;
 use crate::slots::float_at;
 use crate::slots::index_at;
@@ -19,7 +19,7 @@ use dominance::slack_of;
 
 fn mean_between(floats: &[f64], place: usize, a: usize, b: usize) -> f64
     requires { ⌜ (a < b) × (b ≤ 4096) × (place + b < length (now floats)) ⌝ }
-    ensures { λ r. ⌜ r ≡ (getD (now (floats .entry)) (place + b) nan -ᶠ getD (now (floats .entry)) (place + a) nan) /ᶠ whole (b - a) ⌝ }
+    ensures { λ r. ⌜ r ≡ (getD (now (floats .entry)) (place + b) nan -ᶠ getD (now (floats .entry)) (place + a) nan) /ᶠ ofWhole (b - a) ⌝ }
 {
     (float_at(floats, place + b) - float_at(floats, place + a)) / (((b - a) as u32) as f64)
 }
@@ -67,7 +67,7 @@ pub(crate) fn face_all(
     count: usize,
     b: usize,
 )
-    requires { ⌜ (b ≤ plan .n) × (count ≤ plan .slots) × (count ≤ plan .n + 1) × Sums (now run) (plan .n) (plan .channels) (now floats) × Room plan (length (now floats)) (length (now indices)) (length (now pool)) × Below b (now indices) (plan .n + 1) count ⌝ }
+    requires { ⌜ (b ≤ plan .n) × (count ≤ plan .slots) × (count ≤ plan .n + 1) × Sums (now run) (plan .n) (plan .channels) (now floats) × Room plan (length (now floats)) (length (now indices)) (length (now pool)) × AllBelow b (now indices) (plan .n + 1) count ⌝ }
     ensures { λ r. ⌜ Mapped (λ i slot. putFacing slot (facing (task (now (run .entry)) plan) (part (now (floats .entry)) (plan .f) (plan .n + 1)) (getD (now (indices .entry)) (plan .n + 1 + i) 0) b)) (now (pool .entry)) (now (pool .exit)) count ⌝ }
 {
     let w = plan.n + 1;

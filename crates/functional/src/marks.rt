@@ -5,6 +5,7 @@ ghost use mathlib.Core.Path.{_≡_};
 ghost use mathlib.Core.Bool.{true, cond};
 ghost use Prim.Native.Nat.{_+_, _≤_};
 ghost use Rattle.functional.specs.Held.{ballsIn, SameBox};
+use crate::MARK;
 use candidate::Candidate;
 use floats::to_bits;
 
@@ -15,7 +16,7 @@ pub(crate) fn remarked(word: usize, stayed: bool) -> usize
     if stayed {
         return word;
     }
-    word % 128
+    word % MARK
 }
 
 // The word of a candidate with so many balls: marked where they cut nothing from its box.
@@ -24,7 +25,7 @@ pub(crate) fn marked(balls: usize, uncut: bool) -> usize
     ensures { λ r. ⌜ r ≡ cond uncut (balls + 128) balls ⌝ }
 {
     if uncut {
-        return balls + 128;
+        return balls + MARK;
     }
     balls
 }

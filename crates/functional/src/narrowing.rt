@@ -8,6 +8,9 @@ ghost use Rattle.candidate.specs.Balls.{ballsAt};
 ghost use Rattle.candidate.specs.Cuts.{cutLosing};
 ghost use Rattle.dominance.specs.Functional.{outerBall, cutBack};
 ghost use Rattle.functional.specs.Held.{slotAt, boxAt, ballFloats, putBox, Put, Balled, Mapped, ballsIn, livedAt, Kept, BallsOf, Sane, narrowedAt, Remarked, putIndices, Settled, Narrowed};
+use crate::HEADER;
+use crate::MARK;
+use crate::SLOT;
 use crate::marks::marked;
 use crate::marks::remarked;
 use crate::marks::same_box;
@@ -101,7 +104,7 @@ fn cut_box(pool: &[f64], channels: usize, j: usize, word: usize, before: Candida
     if 127 < word {
         return before;
     }
-    before.cut_losing(channels, pool, 200 * j + 8, word)
+    before.cut_losing(channels, pool, SLOT * j + HEADER, word)
 }
 
 // Candidate j is cut by its balls, and goes to slot `kept` where anything is left of it: how many are
@@ -124,7 +127,7 @@ fn settle(
     if is_dominated(cut, channels) {
         return kept;
     }
-    let balls = word % 128;
+    let balls = word % MARK;
     bring_balls(pool, kept, j, balls);
     store(
         indices,

@@ -7,12 +7,15 @@ ghost use Rattle.recurrence.specs.Room.{searchFits};
 ghost use Rattle.dominance.specs.Functional.{rangeBox};
 ghost use Rattle.dominance.specs.Partitioned.{fitsTask, Partitioned};
 ghost use Rattle.functional.specs.Held.{Room, task, Holds, Ran};
+use crate::FUNCTIONAL_MAX_CHANNELS;
 use crate::Plan;
+use crate::SLOT;
 use crate::ranges::range_box;
 use crate::slots::put_box;
 use crate::steps::search;
 use areas::clear_floats;
 use areas::clear_indices;
+use candidate::Candidate;
 use recurrence::search_fits;
 use sums::channel_sums;
 
@@ -48,7 +51,7 @@ fn search_all(
     requires { ⌜ (1 ≤ channels) × (channels ≤ 2) × (searchFits (length (now run)) n channels m (length (now floats)) (length (now indices)) ≡ true) ⌝ }
     ensures { λ r. ⌜ Ran (record { run = now (run .entry); n = n; channels = channels; m = m; penalty = penalty }) (length (now (pool .entry)) / 200) (now (indices .exit)) r ⌝ }
 {
-    let slots = pool.len() / 200;
+    let slots = pool.len() / SLOT;
     if slots < 1 {
         return false;
     }
@@ -62,7 +65,7 @@ fn search_all(
         range: range_box(run, n, channels),
     };
     begin(run, floats, indices, pool, plan);
-    let mut born = [0.0; 192];
+    let mut born = [0.0; Candidate::BALLS];
     search(run, floats, indices, pool, &mut born, plan)
 }
 
@@ -80,7 +83,7 @@ fn task_fits(run: usize, n: usize, channels: usize, m: usize, floats: usize, ind
     ensures { λ r. ⌜ r ≡ fitsTask run n channels m floats indices ⌝ }
 {
     if 1 <= channels {
-        if channels <= 2 {
+        if channels <= FUNCTIONAL_MAX_CHANNELS {
             return search_fits(run, n, channels, m, floats, indices);
         }
     }

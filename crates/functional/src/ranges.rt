@@ -1,5 +1,6 @@
 // The box of the channels' ranges.
 ghost use mathlib.Core.Path.{_≡_};
+ghost use Prim.Native.Nat.{_≤_, _<_};
 ghost use Rattle.floats.specs.Numbers.{+0};
 ghost use Rattle.readings.specs.Channels.{channelOf};
 ghost use Rattle.extremes.specs.Extremes.{rangeOf, about};
@@ -9,14 +10,15 @@ use candidate::Candidate;
 use extremes::Range;
 use extremes::range_about;
 use extremes::range_of;
-use readings::channel;
 use sums::mean;
+use views::channel_of;
 
-// Cost: two turns for each reading of the channel.
-fn range_along(run: &[f64], n: usize, k: usize) -> Range
+// The range of channel `k` about its mean. Cost: two turns for each reading of the channel.
+fn range_along(run: &[f64], channels: usize, n: usize, k: usize) -> Range
+    requires { ⌜ k < channels ⌝ }
     ensures { λ r. ⌜ r ≡ about (rangeOf (channelOf (now (run .entry)) n k)) (meanOf (channelOf (now (run .entry)) n k)) ⌝ }
 {
-    let signal = channel(run, n, k);
+    let signal = channel_of(run, channels, n, k);
     let range = range_of(signal);
     let centre = mean(signal);
     range_about(range, centre)
@@ -25,16 +27,17 @@ fn range_along(run: &[f64], n: usize, k: usize) -> Range
 // The box that every segment mean lies in; 0 for a second channel that is not there. Minimum length
 // and penalty do not matter to it.
 pub(crate) fn range_box(run: &[f64], n: usize, channels: usize) -> Candidate
+    requires { ⌜ 1 ≤ channels ⌝ }
     ensures { λ r. ⌜ r ≡ rangeBox (record { run = now (run .entry); n = n; channels = channels; m = 0; penalty = +0 }) ⌝ }
 {
-    let x = range_along(run, n, 0);
+    let x = range_along(run, channels, n, 0);
     if channels == 1 {
         return Candidate {
             lo: [x.lo, 0.0],
             hi: [x.hi, 0.0],
         };
     }
-    let y = range_along(run, n, 1);
+    let y = range_along(run, channels, n, 1);
     Candidate {
         lo: [x.lo, y.lo],
         hi: [x.hi, y.hi],

@@ -6,6 +6,8 @@ ghost use lib.ListN.{length, getD};
 ghost use lib.Ieee.{nan};
 ghost use Rattle.readings.specs.Parts.{part};
 ghost use Rattle.functional.specs.Held.{slotAt, boxAt, facingAt, putBox, putFacing, Put, Copied, Balled};
+use crate::HEADER;
+use crate::SLOT;
 use candidate::Candidate;
 use dominance::Facing;
 
@@ -27,7 +29,7 @@ pub(crate) fn box_at(pool: &[f64], j: usize) -> Candidate
     requires { ⌜ (200 * j + 200 ≤ length (now pool)) × (j ≤ 4096) ⌝ }
     ensures { λ r. ⌜ r ≡ boxAt (slotAt (now (pool .entry)) j) ⌝ }
 {
-    let base = 200 * j;
+    let base = SLOT * j;
     Candidate {
         lo: [float_at(pool, base), float_at(pool, base + 2)],
         hi: [float_at(pool, base + 1), float_at(pool, base + 3)],
@@ -38,7 +40,7 @@ pub(crate) fn facing_at(pool: &[f64], j: usize) -> Facing
     requires { ⌜ (200 * j + 200 ≤ length (now pool)) × (j ≤ 4096) ⌝ }
     ensures { λ r. ⌜ r ≡ facingAt (slotAt (now (pool .entry)) j) ⌝ }
 {
-    let base = 200 * j;
+    let base = SLOT * j;
     Facing {
         cx: float_at(pool, base + 4),
         cy: float_at(pool, base + 5),
@@ -51,7 +53,7 @@ pub(crate) fn put_box(pool: &mut [f64], j: usize, candidate: Candidate)
     requires { ⌜ (200 * j + 200 ≤ length (now pool)) × (j ≤ 4096) ⌝ }
     ensures { λ r. ⌜ Put (now (pool .entry)) (now (pool .exit)) j (putBox (slotAt (now (pool .entry)) j) candidate) ⌝ }
 {
-    let base = 200 * j;
+    let base = SLOT * j;
     pool[base] = candidate.lo[0];
     pool[base + 1] = candidate.hi[0];
     pool[base + 2] = candidate.lo[1];
@@ -62,7 +64,7 @@ pub(crate) fn put_facing(pool: &mut [f64], j: usize, x: Facing)
     requires { ⌜ (200 * j + 200 ≤ length (now pool)) × (j ≤ 4096) ⌝ }
     ensures { λ r. ⌜ Put (now (pool .entry)) (now (pool .exit)) j (putFacing (slotAt (now (pool .entry)) j) x) ⌝ }
 {
-    let base = 200 * j;
+    let base = SLOT * j;
     pool[base + 4] = x.cx;
     pool[base + 5] = x.cy;
     pool[base + 6] = x.outer;
@@ -99,10 +101,16 @@ pub(crate) fn copy_balls(pool: &mut [f64], j: usize, from: &[f64], count: usize)
     requires { ⌜ (200 * j + 200 ≤ length (now pool)) × (j ≤ 4096) × (length (now from) ≡ 192) × (count ≤ 64) ⌝ }
     ensures { λ r. ⌜ Balled (now (pool .entry)) (now (pool .exit)) j (now (from .entry)) 0 count ⌝ }
 {
-    let base = 200 * j + 8;
+    let base = SLOT * j + HEADER;
     copy_run(pool, base, from, 0, count);
-    copy_run(pool, base + 64, from, 64, count);
-    copy_run(pool, base + 128, from, 128, count);
+    copy_run(
+        pool,
+        base + Candidate::SECONDS,
+        from,
+        Candidate::SECONDS,
+        count,
+    );
+    copy_run(pool, base + Candidate::RADII, from, Candidate::RADII, count);
 }
 
 // So many balls into slot j from a later slot; those that are not in use stay where they are.
@@ -110,9 +118,19 @@ pub(crate) fn move_balls(pool: &mut [f64], j: usize, later: usize, count: usize)
     requires { ⌜ (200 * later + 200 ≤ length (now pool)) × (later ≤ 4096) × (j < later) × (count ≤ 64) ⌝ }
     ensures { λ r. ⌜ Balled (now (pool .entry)) (now (pool .exit)) j (now (pool .entry)) (200 * later + 8) count ⌝ }
 {
-    let base = 200 * j + 8;
-    let place = 200 * later + 8;
+    let base = SLOT * j + HEADER;
+    let place = SLOT * later + HEADER;
     move_run(pool, base, place, count);
-    move_run(pool, base + 64, place + 64, count);
-    move_run(pool, base + 128, place + 128, count);
+    move_run(
+        pool,
+        base + Candidate::SECONDS,
+        place + Candidate::SECONDS,
+        count,
+    );
+    move_run(
+        pool,
+        base + Candidate::RADII,
+        place + Candidate::RADII,
+        count,
+    );
 }

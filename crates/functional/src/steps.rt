@@ -9,7 +9,7 @@ ghost use Rattle.readings.specs.Parts.{part};
 ghost use Rattle.sums.specs.EachChannel.{Sums};
 ghost use Rattle.recurrence.specs.Minimum.{scanTo};
 ghost use Rattle.dominance.specs.Functional.{price};
-ghost use Rattle.functional.specs.Held.{Room, task, taus, Below, Holds, Stepped, Searched};
+ghost use Rattle.functional.specs.Held.{Room, task, taus, AllBelow, Holds, Stepped, Searched};
 use crate::Plan;
 use crate::birth::birth;
 use crate::slots::float_at;
@@ -40,7 +40,7 @@ fn best_of(
     count: usize,
     t: usize,
 ) -> Best
-    requires { ⌜ (t ≤ plan .n) × (count ≤ plan .n + 1) × Sums (now run) (plan .n) (plan .channels) (now floats) × ((lp : ℕ) × Room plan (length (now floats)) (length (now indices)) lp) × Below t (now indices) (plan .n + 1) count ⌝ }
+    requires { ⌜ (t ≤ plan .n) × (count ≤ plan .n + 1) × Sums (now run) (plan .n) (plan .channels) (now floats) × ((lp : ℕ) × Room plan (length (now floats)) (length (now indices)) lp) × AllBelow t (now indices) (plan .n + 1) count ⌝ }
     ensures { λ r. ⌜ r ≡ scanTo (λ tau. true) (λ tau. getD (part (now (floats .entry)) (plan .f) (plan .n + 1)) tau nan +ᶠ price (task (now (run .entry)) plan) tau t +ᶠ plan .penalty) (taus (now (indices .entry)) (plan .n + 1) count) count ⌝ }
 {
     let w = plan.n + 1;

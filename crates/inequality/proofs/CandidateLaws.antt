@@ -10,7 +10,7 @@ use lib.ListN.{length, getD, length-append, List·getD-append}
 use lib.Seq.{getD-at}
 use Rattle.recurrence.specs.Minimum.{keptTo}
 use Rattle.recurrence.proofs.All.{All, none, all-at, all-last}
-use Rattle.inequality.specs.Held.{Below, Rising}
+use Rattle.inequality.specs.Held.{AllBelow, Rising}
 
 -- ---- what holds of the first j holds of those of them that stay
 kept-first : (P : ℕ → Type 0) (stays : ℕ → Bool) (cs : List ℕ) (j : ℕ) → ((i : ℕ) → i < j → P (getD cs i 0)) → All P (keptTo stays cs j)
@@ -50,13 +50,13 @@ rising-kept stays cs (suc j) r h = go (stays (getD cs j 0)) (rising-kept stays c
     go false p = p
 
 -- ---- those that stay, and t
-pub rising-next : (stays : ℕ → Bool) (cs : List ℕ) (t : ℕ) → Rising cs → Below t cs → Rising (keptTo stays cs (length cs) ++ (t ∷ []))
+pub rising-next : (stays : ℕ → Bool) (cs : List ℕ) (t : ℕ) → Rising cs → AllBelow t cs → Rising (keptTo stays cs (length cs) ++ (t ∷ []))
 rising-next stays cs t r b = rising-last _ t (rising-kept stays cs (length cs) r (omega arith)) (kept-first (λ x. x < t) stays cs (length cs) (b .below))
 
-pub kept-below : (stays : ℕ → Bool) (cs : List ℕ) (t : ℕ) → Below t cs → (j : ℕ) → j < length (keptTo stays cs (length cs)) → getD (keptTo stays cs (length cs)) j 0 < t
+pub kept-below : (stays : ℕ → Bool) (cs : List ℕ) (t : ℕ) → AllBelow t cs → (j : ℕ) → j < length (keptTo stays cs (length cs)) → getD (keptTo stays cs (length cs)) j 0 < t
 kept-below stays cs t b j h = all-at j (kept-first (λ x. x < t) stays cs (length cs) (b .below)) h
 
-pub below-next : (stays : ℕ → Bool) (cs : List ℕ) (t : ℕ) → Below t cs → Below (t + 1) (keptTo stays cs (length cs) ++ (t ∷ []))
+pub below-next : (stays : ℕ → Bool) (cs : List ℕ) (t : ℕ) → AllBelow t cs → AllBelow (t + 1) (keptTo stays cs (length cs) ++ (t ∷ []))
 below-next stays cs t b =
     let all : All (λ x. x < t + 1) (keptTo stays cs (length cs) ++ (t ∷ [])) = all-last (kept-first (λ x. x < t + 1) stays cs (length cs) (λ i h. let l = b .below i h in omega arith)) (omega arith) in
     record { below = λ j h. all-at j all h }

@@ -15,7 +15,7 @@ use Rattle.recurrence.specs.declared.Best.{Best}
 use Rattle.recurrence.specs.Minimum.{keptTo}
 use Rattle.pruning.specs.Inequality.{State, partOf, bestAt, staysAt, stepOf, stateAfter}
 use Rattle.inequality.specs.declared.Plan.{Plan}
-use Rattle.inequality.specs.Held.{Room, planned, runOf, Below, Rising, Shown, Holds}
+use Rattle.inequality.specs.Held.{Room, planned, runOf, AllBelow, Rising, Shown, Holds}
 use Rattle.inequality.specs.Weights.{Parted, Written, weightBy, lowestBy}
 use Rattle.inequality.specs.Staying.{stayCount, keptBy, Retained, RetainedRuns, Joined}
 use Rattle.inequality.proofs.WrittenLaws.{at-front, at-back, written-all}
@@ -181,8 +181,8 @@ count-few h = omega (arith, h .few, h .room .some)
 pub count-room : {run : List Float} {q : Plan} {xs : List Float} {ix : List ℕ} {count t : ℕ} {s : State} → Shown run q xs ix count t s → t ≤ q .n → q .c + count ≤ length ix
 count-room h l = omega (arith, h .few, h .room .some, h .room .c)
 
-pub shown-below : {run : List Float} {q : Plan} {xs : List Float} {ix : List ℕ} {count t : ℕ} {s : State} → Shown run q xs ix count t s → Below t (part ix (q .c) count)
-shown-below {t = t} h = subst (Below t) (sym (h .candidates)) (h .below)
+pub shown-below : {run : List Float} {q : Plan} {xs : List Float} {ix : List ℕ} {count t : ℕ} {s : State} → Shown run q xs ix count t s → AllBelow t (part ix (q .c) count)
+shown-below {t = t} h = subst (AllBelow t) (sym (h .candidates)) (h .below)
 
 pub shown-rising : {run : List Float} {q : Plan} {xs : List Float} {ix : List ℕ} {count t : ℕ} {s : State} → Shown run q xs ix count t s → Rising (part ix (q .c) count)
 shown-rising h = subst Rising (sym (h .candidates)) (h .rising)

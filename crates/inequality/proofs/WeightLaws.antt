@@ -11,7 +11,7 @@ use lib.Dec.{leb}
 use lib.ListN.{length, getD, take, length-map}
 use lib.Seq.{length-take-le}
 use lib.Ieee.{Float, nan}
-use Rattle.floats.specs.Numbers.{_+ᶠ_, _-ᶠ_, _*ᶠ_, _/ᶠ_, _≤ᶠ_, +0, -∞, whole}
+use Rattle.floats.specs.Numbers.{_+ᶠ_, _-ᶠ_, _*ᶠ_, _/ᶠ_, _≤ᶠ_, +0, -∞, ofWhole}
 use Rattle.readings.specs.Parts.{part, tab, Frame}
 use Rattle.readings.proofs.PartLaws.{part-at, part-length, tab-length, tab-at, read, frame-refl, frame-trans, frame-wide}
 use Rattle.sums.proofs.ChannelLaws.{mul-more, mul-room}
@@ -23,7 +23,7 @@ use Rattle.costs.specs.declared.CostFunction.the-variants.{L2, Normal}
 use Rattle.costs.specs.declared.Segment.{Segment}
 use Rattle.pruning.specs.Inequality.{oldEnough}
 use Rattle.inequality.specs.declared.Plan.{Plan}
-use Rattle.inequality.specs.Held.{Room, Below, Rising}
+use Rattle.inequality.specs.Held.{Room, AllBelow, Rising}
 use Rattle.inequality.specs.Weights.{Parted, Written, segmentBy, costBy, later, added, lengthBy, raised, varianceBy, weightBy}
 use Rattle.inequality.proofs.WrittenLaws.{at-front, at-back, written-at, written-by}
 
@@ -31,11 +31,11 @@ use Rattle.inequality.proofs.WrittenLaws.{at-front, at-back, written-at
 pub candidate-at : (ix : List ℕ) (b n j i tau : ℕ) → j < n → i ≡ b + j → tau ≡ getD ix i 0 → tau ≡ getD (part ix b n) j 0
 candidate-at ix b n j i tau h e q = q ∙ read ix b n j i 0 e h
 
-pub candidate-below : (t : ℕ) (ix : List ℕ) (b n j i tau : ℕ) → Below t (part ix b n) → b + n ≤ length ix → j < n → i ≡ b + j → tau ≡ getD ix i 0 → tau < t
+pub candidate-below : (t : ℕ) (ix : List ℕ) (b n j i tau : ℕ) → AllBelow t (part ix b n) → b + n ≤ length ix → j < n → i ≡ b + j → tau ≡ getD ix i 0 → tau < t
 candidate-below t ix b n j i tau p l h e q = rw (candidate-at ix b n j i tau h e q) (p .below j (rw (part-length ix b n l) h))
 
 -- the first of them are below t too
-pub below-fewer : (t : ℕ) (ix : List ℕ) (b n m : ℕ) → m ≤ n → b + n ≤ length ix → Below t (part ix b n) → Below t (part ix b m)
+pub below-fewer : (t : ℕ) (ix : List ℕ) (b n m : ℕ) → m ≤ n → b + n ≤ length ix → AllBelow t (part ix b n) → AllBelow t (part ix b m)
 below-fewer t ix b n m h l p =
     record {
       below = λ j g. let k : j < m = rw (part-length ix b m (omega arith)) at g in subst (λ (x : ℕ). x < t) (sym (part-at ix b n j 0 (omega arith)) ∙ part-at ix b m j 0 k) (p .below j (rw (part-length ix b n l) (omega arith)));
@@ -55,7 +55,7 @@ added-same cost x y ix w place p c t j n f h l g k =
     rw (at-back (p + j) nan f (omega arith), segment-same x y w place p n j (getD ix (c + j) 0) t f (omega arith) (omega arith)) refl
 
 -- ---- a segment that was read of an area of which only parts before the candidate's own were written
-pub segment-read : (x y : List Float) (w place p t j tau : ℕ) (g s q : Float) (r : Segment) → Frame x y p j → place + w + w ≤ p → t < w → j < w → g ≡ whole (t - tau)
+pub segment-read : (x y : List Float) (w place p t j tau : ℕ) (g s q : Float) (r : Segment) → Frame x y p j → place + w + w ≤ p → t < w → j < w → g ≡ ofWhole (t - tau)
     → s ≡ getD x (place + t) nan → q ≡ getD x (place + w + t) nan
     → r ≡ record { length = g; sum = s -ᶠ getD y (place + j) nan; «sum_of_squares» = q -ᶠ getD y (place + w + j) nan } → r ≡ segmentBy x w place j tau t
 unfolding segmentBy
@@ -83,7 +83,7 @@ raised-cost s = go (l2Cost s /ᶠ s .length ≤ᶠ +0)
     go false = refl
 
 -- ---- the variance of one candidate more
-pub variance-here : (x : List Float) (ix : List ℕ) (w place c t first i tau : ℕ) (a b s q g l v : Float) → tau ≡ getD ix (c + (first + i)) 0 → g ≡ whole (t - tau)
+pub variance-here : (x : List Float) (ix : List ℕ) (w place c t first i tau : ℕ) (a b s q g l v : Float) → tau ≡ getD ix (c + (first + i)) 0 → g ≡ ofWhole (t - tau)
     → s ≡ getD x (place + t) nan → q ≡ getD x (place + w + t) nan → a ≡ getD x (place + (first + i)) nan → b ≡ getD x (place + w + (first + i)) nan
     → l ≡ l2Cost (record { length = g; sum = s -ᶠ a; «sum_of_squares» = q -ᶠ b }) → v ≡ raised (l /ᶠ g) → v ≡ varianceBy x ix w place c t first i
 unfolding varianceBy lengthBy segmentBy

@@ -35,7 +35,7 @@ runOf run n r i =
     cond (eqb (r % 2) 0) (centredTo xs (meanOf xs) i) (squaresTo xs (meanOf xs) i)
 
 -- each of the candidates is below t
-pub record Below (t : ℕ) (candidates : List ℕ) : Type 0 where
+pub record AllBelow (t : ℕ) (candidates : List ℕ) : Type 0 where
   pub below : (j : ℕ) → j < length candidates → getD candidates j 0 < t
 
 -- they rise
@@ -51,7 +51,7 @@ pub record Runs (run : List Float) (q : Plan) (xs : List Float) (candidates : Li
 -- the areas hold a state of the recurrence, as a step at t wants it
 pub record Shown (run : List Float) (q : Plan) (xs : List Float) (ix : List ℕ) (count t : ℕ) (s : State) : Type 0 where
   pub room : Room q (length xs) (length ix)
-  pub below : Below t (s .candidates)
+  pub below : AllBelow t (s .candidates)
   pub rising : Rising (s .candidates)
   pub long : length (s .f) ≡ q .n + 1
   pub from : q .m ≤ t

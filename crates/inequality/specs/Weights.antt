@@ -6,7 +6,7 @@ use mathlib.Core.List.{List}
 use lib.Dec.{ltb}
 use lib.ListN.{length, getD}
 use lib.Ieee.{Float, nan}
-use Rattle.floats.specs.Numbers.{_+ᶠ_, _-ᶠ_, _/ᶠ_, _≤ᶠ_, +0, -∞, whole}
+use Rattle.floats.specs.Numbers.{_+ᶠ_, _-ᶠ_, _/ᶠ_, _≤ᶠ_, +0, -∞, ofWhole}
 use Rattle.readings.specs.Parts.{part, tab, Frame}
 use Rattle.costs.specs.Costs.{costOf, l2Cost, smallestNormal}
 use Rattle.costs.specs.declared.CostFunction.{CostFunction}
@@ -31,7 +31,7 @@ pub record Written {A : Type 0} (before after : List A) (place : ℕ) (value : �
 unfoldable pub segmentBy : List Float → ℕ → ℕ → ℕ → ℕ → ℕ → Segment
 segmentBy area w place j tau t =
     record {
-      length = whole (t - tau);
+      length = ofWhole (t - tau);
       sum = getD area (place + t) nan -ᶠ getD area (place + j) nan;
       «sum_of_squares» = getD area (place + w + t) nan -ᶠ getD area (place + w + j) nan;
     }
@@ -53,7 +53,7 @@ added cost area ix w place p c t (suc r) j = added cost area ix w place p c t r 
 
 -- how many readings the candidate at place j of the list has up to t
 unfoldable pub lengthBy : List ℕ → ℕ → ℕ → ℕ → Float
-lengthBy ix c t j = whole (t - getD ix (c + j) 0)
+lengthBy ix c t j = ofWhole (t - getD ix (c + j) 0)
 
 -- a variance at or below 0 counts as the smallest normal number
 unfoldable pub raised : Float → Float

@@ -7,7 +7,7 @@ ghost use lib.Ieee.{nan};
 ghost use Rattle.floats.specs.Numbers.{_+ᶠ_, _*ᶠ_};
 ghost use Rattle.readings.specs.Parts.{part, tab};
 ghost use Rattle.costs.specs.declared.CostFunction.the-variants.{Normal};
-ghost use Rattle.inequality.specs.Held.{Room, Below};
+ghost use Rattle.inequality.specs.Held.{Room, AllBelow};
 ghost use Rattle.inequality.specs.Weights.{Written, added, raised, varianceBy, lengthBy};
 use crate::Plan;
 use crate::weights::float_at;
@@ -38,7 +38,7 @@ fn vary(
     t: usize,
     values: &mut [f64],
 )
-    requires { ⌜ Room plan (length (now floats)) (length (now indices)) × (place + 2 * (plan .n + 1) ≤ plan .f) × (t ≤ plan .n) × (first + length (now values) ≤ t) × Below t (part (now indices) (plan .c) (first + length (now values))) ⌝ }
+    requires { ⌜ Room plan (length (now floats)) (length (now indices)) × (place + 2 * (plan .n + 1) ≤ plan .f) × (t ≤ plan .n) × (first + length (now values) ≤ t) × AllBelow t (part (now indices) (plan .c) (first + length (now values))) ⌝ }
     ensures { λ r. ⌜ now (values .exit) ≡ tab (varianceBy (now (floats .entry)) (now (indices .entry)) (plan .n + 1) place (plan .c) t first) (length (now (values .entry))) ⌝ }
 {
     let w = plan.n + 1;
@@ -68,7 +68,7 @@ fn put(
     t: usize,
     logarithms: &[f64],
 )
-    requires { ⌜ (t ≤ 4096) × (plan .p + first + length (now logarithms) ≤ length (now floats)) × (plan .c + first + length (now logarithms) ≤ length (now indices)) × Below t (part (now indices) (plan .c) (first + length (now logarithms))) ⌝ }
+    requires { ⌜ (t ≤ 4096) × (plan .p + first + length (now logarithms) ≤ length (now floats)) × (plan .c + first + length (now logarithms) ≤ length (now indices)) × AllBelow t (part (now indices) (plan .c) (first + length (now logarithms))) ⌝ }
     ensures { λ r. ⌜ Written (now (floats .entry)) (now (floats .exit)) (plan .p + first) (λ i. getD (now (floats .entry)) (plan .p + first + i) nan +ᶠ lengthBy (now (indices .entry)) (plan .c) t (first + i) *ᶠ getD (now (logarithms .entry)) i nan) (length (now (logarithms .entry))) ⌝ }
 {
     let c = plan.c;
@@ -92,7 +92,7 @@ fn add_block(
     t: usize,
     values: &mut [f64],
 )
-    requires { ⌜ Room plan (length (now floats)) (length (now indices)) × (place + 2 * (plan .n + 1) ≤ plan .f) × (t ≤ plan .n) × (first + length (now values) ≤ t) × Below t (part (now indices) (plan .c) (first + length (now values))) ⌝ }
+    requires { ⌜ Room plan (length (now floats)) (length (now indices)) × (place + 2 * (plan .n + 1) ≤ plan .f) × (t ≤ plan .n) × (first + length (now values) ≤ t) × AllBelow t (part (now indices) (plan .c) (first + length (now values))) ⌝ }
     ensures { λ r. ⌜ Written (now (floats .entry)) (now (floats .exit)) (plan .p + first) (λ i. added Normal (now (floats .entry)) (now (indices .entry)) (plan .n + 1) place (plan .p) (plan .c) t 1 (first + i)) (length (now (values .entry))) ⌝ }
 {
     vary(floats, indices, plan, place, first, t, values);
@@ -121,7 +121,7 @@ pub(crate) fn add_normal(
     old: usize,
     t: usize,
 )
-    requires { ⌜ Room plan (length (now floats)) (length (now indices)) × (place + 2 * (plan .n + 1) ≤ plan .f) × (t ≤ plan .n) × (old ≤ t) × Below t (part (now indices) (plan .c) old) ⌝ }
+    requires { ⌜ Room plan (length (now floats)) (length (now indices)) × (place + 2 * (plan .n + 1) ≤ plan .f) × (t ≤ plan .n) × (old ≤ t) × AllBelow t (part (now indices) (plan .c) old) ⌝ }
     ensures { λ r. ⌜ Written (now (floats .entry)) (now (floats .exit)) (plan .p) (added Normal (now (floats .entry)) (now (indices .entry)) (plan .n + 1) place (plan .p) (plan .c) t 1) old ⌝ }
 {
     let mut values = [0.0; 32];

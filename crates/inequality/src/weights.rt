@@ -3,11 +3,11 @@ ghost use mathlib.Core.Path.{_≡_};
 ghost use Prim.Native.Nat.{_+_, _-_, _*_, _≤_, _<_};
 ghost use lib.ListN.{length, getD};
 ghost use lib.Ieee.{nan};
-ghost use Rattle.floats.specs.Numbers.{_+ᶠ_, _-ᶠ_, whole};
+ghost use Rattle.floats.specs.Numbers.{_+ᶠ_, _-ᶠ_, ofWhole};
 ghost use Rattle.readings.specs.Parts.{part};
 ghost use Rattle.costs.specs.declared.CostFunction.the-variants.{L2};
 ghost use Rattle.pruning.specs.Inequality.{oldEnough};
-ghost use Rattle.inequality.specs.Held.{Room, Below, Rising};
+ghost use Rattle.inequality.specs.Held.{Room, AllBelow, Rising};
 ghost use Rattle.inequality.specs.Weights.{Parted, Written, costBy, added, weightBy};
 use crate::Plan;
 use crate::normal::add_normal;
@@ -39,14 +39,14 @@ fn old_enough(m: usize, t: usize, tau: usize) -> bool
 // How many readings there are from tau up to t.
 pub(crate) fn length_of(tau: usize, t: usize) -> f64
     requires { ⌜ (tau < t) × (t ≤ 4096) ⌝ }
-    ensures { λ r. ⌜ r ≡ whole (t - tau) ⌝ }
+    ensures { λ r. ⌜ r ≡ ofWhole (t - tau) ⌝ }
 {
     (t - tau) as f64
 }
 
 // How many candidates are m old: the young are the last of them. Cost: one turn for each young one.
 pub(crate) fn old_count(indices: &[usize], plan: Plan, count: usize, t: usize) -> usize
-    requires { ⌜ (plan .c + count ≤ length (now indices)) × Below t (part (now indices) (plan .c) count) × Rising (part (now indices) (plan .c) count) ⌝ }
+    requires { ⌜ (plan .c + count ≤ length (now indices)) × AllBelow t (part (now indices) (plan .c) count) × Rising (part (now indices) (plan .c) count) ⌝ }
     ensures { λ r. ⌜ Parted (plan .m) t (part (now (indices .entry)) (plan .c) count) r ⌝ }
 {
     let c = plan.c;
@@ -85,7 +85,7 @@ fn segment_by(
 // The L2 costs of the channel whose runs stand at a place, onto the parts. Cost: one turn for each
 // candidate, with no branch, so that several go at once.
 fn add_l2(floats: &mut [f64], indices: &[usize], plan: Plan, place: usize, old: usize, t: usize)
-    requires { ⌜ Room plan (length (now floats)) (length (now indices)) × (place + 2 * (plan .n + 1) ≤ plan .f) × (t ≤ plan .n) × (old ≤ t) × Below t (part (now indices) (plan .c) old) ⌝ }
+    requires { ⌜ Room plan (length (now floats)) (length (now indices)) × (place + 2 * (plan .n + 1) ≤ plan .f) × (t ≤ plan .n) × (old ≤ t) × AllBelow t (part (now indices) (plan .c) old) ⌝ }
     ensures { λ r. ⌜ Written (now (floats .entry)) (now (floats .exit)) (plan .p) (added L2 (now (floats .entry)) (now (indices .entry)) (plan .n + 1) place (plan .p) (plan .c) t 1) old ⌝ }
 {
     let w = plan.n + 1;
@@ -112,7 +112,7 @@ fn add_l2_pair(
     old: usize,
     t: usize,
 )
-    requires { ⌜ Room plan (length (now floats)) (length (now indices)) × (place + 4 * (plan .n + 1) ≤ plan .f) × (t ≤ plan .n) × (old ≤ t) × Below t (part (now indices) (plan .c) old) ⌝ }
+    requires { ⌜ Room plan (length (now floats)) (length (now indices)) × (place + 4 * (plan .n + 1) ≤ plan .f) × (t ≤ plan .n) × (old ≤ t) × AllBelow t (part (now indices) (plan .c) old) ⌝ }
     ensures { λ r. ⌜ Written (now (floats .entry)) (now (floats .exit)) (plan .p) (added L2 (now (floats .entry)) (now (indices .entry)) (plan .n + 1) place (plan .p) (plan .c) t 2) old ⌝ }
 {
     let w = plan.n + 1;
@@ -155,7 +155,7 @@ fn add_next(
     old: usize,
     t: usize,
 ) -> usize
-    requires { ⌜ Room plan (length (now floats)) (length (now indices)) × (1 ≤ left) × (place + 2 * (plan .n + 1) ≤ plan .f) × (2 ≤ left → place + 4 * (plan .n + 1) ≤ plan .f) × (t ≤ plan .n) × (old ≤ t) × Below t (part (now indices) (plan .c) old) ⌝ }
+    requires { ⌜ Room plan (length (now floats)) (length (now indices)) × (1 ≤ left) × (place + 2 * (plan .n + 1) ≤ plan .f) × (2 ≤ left → place + 4 * (plan .n + 1) ≤ plan .f) × (t ≤ plan .n) × (old ≤ t) × AllBelow t (part (now indices) (plan .c) old) ⌝ }
     ensures { λ r. ⌜ (1 ≤ r) × (r ≤ left) × Written (now (floats .entry)) (now (floats .exit)) (plan .p) (added (plan .cost) (now (floats .entry)) (now (indices .entry)) (plan .n + 1) place (plan .p) (plan .c) t r) old ⌝ }
 {
     let cost = plan.cost;
@@ -178,7 +178,7 @@ fn add_next(
 
 // The costs over the channels, as parts. Cost: one turn for each channel, or for every two.
 fn add_channels(floats: &mut [f64], indices: &[usize], plan: Plan, old: usize, t: usize)
-    requires { ⌜ Room plan (length (now floats)) (length (now indices)) × (t ≤ plan .n) × (old ≤ t) × Below t (part (now indices) (plan .c) old) ⌝ }
+    requires { ⌜ Room plan (length (now floats)) (length (now indices)) × (t ≤ plan .n) × (old ≤ t) × AllBelow t (part (now indices) (plan .c) old) ⌝ }
     ensures { λ r. ⌜ Written (now (floats .entry)) (now (floats .exit)) (plan .p) (λ j. costBy (plan .cost) (now (floats .entry)) (plan .n + 1) j (getD (now (indices .entry)) (plan .c + j) 0) t (plan .channels)) old ⌝ }
 {
     let p = plan.p;
@@ -216,7 +216,7 @@ pub(crate) fn weigh(
     count: usize,
     t: usize,
 )
-    requires { ⌜ Room plan (length (now floats)) (length (now indices)) × (t ≤ plan .n) × (old ≤ count) × (count ≤ t) × Below t (part (now indices) (plan .c) old) ⌝ }
+    requires { ⌜ Room plan (length (now floats)) (length (now indices)) × (t ≤ plan .n) × (old ≤ count) × (count ≤ t) × AllBelow t (part (now indices) (plan .c) old) ⌝ }
     ensures { λ r. ⌜ Written (now (floats .entry)) (now (floats .exit)) (plan .p) (weightBy plan (now (floats .entry)) (now (indices .entry)) old t) count ⌝ }
 {
     add_channels(floats, indices, plan, old, t);

@@ -8,7 +8,7 @@ use native.Mathlib.Decide.{decLe}
 use lib.ListN.{length, getD, set, replicate, getD-replicate}
 use lib.Seq.{getD-set-same}
 use lib.Ieee.{Float, nan}
-use Rattle.floats.specs.Numbers.{_+ᶠ_, _*ᶠ_, _/ᶠ_, whole}
+use Rattle.floats.specs.Numbers.{_+ᶠ_, _*ᶠ_, _/ᶠ_, ofWhole}
 use Rattle.elementary.specs.Logarithm.{series}
 use Rattle.logarithms.specs.Stages.{Begun, Each, Filled, Put}
 use Rattle.logarithms.proofs.EachLaws.{upTo, other, before}
@@ -64,11 +64,11 @@ each-group {R} {xs} {ys} {zs} {group} {result} {place} {n} f g r p = record { ea
     go i h (no l) = subst (R (getD xs i nan)) (sym (p .same i (omega (arith, l)))) (f .each i (omega (arith, l)))
 
 -- ---- the turns of a sum
-pub each-begun : (n : ℕ) (xs : List Float) (p : Float) → p ≡ whole 1 /ᶠ whole 21 → Each (Begun 10) n xs (replicate n p)
+pub each-begun : (n : ℕ) (xs : List Float) (p : Float) → p ≡ ofWhole 1 /ᶠ ofWhole 21 → Each (Begun 10) n xs (replicate n p)
 unfolding Begun
 each-begun n xs p e = record { each = λ i h. ap (series 10 (getD xs i nan *ᶠ getD xs i nan)) (getD-replicate n i p nan h ∙ e) }
 
-pub each-turned : (k : ℕ) {n : ℕ} {xs squares sums next : List Float} {term : Float} → term ≡ whole 1 /ᶠ whole (2 * k + 1)
+pub each-turned : (k : ℕ) {n : ℕ} {xs squares sums next : List Float} {term : Float} → term ≡ ofWhole 1 /ᶠ ofWhole (2 * k + 1)
     → Filled (λ i. getD xs i nan *ᶠ getD xs i nan) n squares → Each (Begun (suc k)) n xs sums → Filled (λ i. getD sums i nan *ᶠ getD squares i nan +ᶠ term) n next
     → Each (Begun k) n xs next
 unfolding Begun series

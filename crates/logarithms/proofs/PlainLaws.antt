@@ -15,7 +15,7 @@ use lib.Ieee.Fits.{round-fits, down-pos, and-l, and-r}
 use lib.Ieee.Exact.{HasValue, round-exact}
 use lib.Ieee.Scale.{round-same}
 use lib.Ieee.Positive.{positive}
-use Rattle.floats.specs.Numbers.{_+ᶠ_, _*ᶠ_, _/ᶠ_, +0, whole, ratio}
+use Rattle.floats.specs.Numbers.{_+ᶠ_, _*ᶠ_, _/ᶠ_, +0, ofWhole, ratio}
 use Rattle.floats.proofs.Order.Laws.{lt→le, lt-then-le}
 use Rattle.floats.proofs.Order.Zero.{above-zero}
 use Rattle.floats.proofs.Order.Patterns as Patterns
@@ -53,7 +53,7 @@ double g = ap (λ (z : ℕ). g * z) (pow-add 2 1 1021) ∙ twice (2 ^ 1021)
     twice : (z : ℕ) → g * (2 ^ 1 * z) ≡ 2 * (g * z)
     twice z = omega arith
 
-half : (g : ℕ) → 2 ^ 52 ≤ g → g < 2 ^ 53 → units binary64 false g 1022 /ᶠ whole 2 ≡ units binary64 false g 1021
+half : (g : ℕ) → 2 ^ 52 ≤ g → g < 2 ^ 53 → units binary64 false g 1022 /ᶠ ofWhole 2 ≡ units binary64 false g 1021
 unfolding ofInt
 half g lo hi =
     halves (units binary64 false g 1022) (g * 2 ^ 1021) (2 ^ 1074) (pow-pos 1074)
@@ -88,10 +88,10 @@ module _ (b : ℕ) (low : 2 ^ 52 ≤ b) (high : b < 2047 * 2 ^ 52) where
   placed k p h e = sym (ap (ofBits binary64) e ∙ placed-is (sig b) k (omega arith) (omega arith) (omega arith))
 
   by-test : (t : Bool) → ltb 0x3ff6_a09e_667f_3bcd (1022 * 2 ^ 52 + sig b) ≡ t
-      → lnScaled M (pos (exp b) -ℤ pos 2096) ≡ lnOf (cond t (pos (exp b) -ℤ pos 2096 +ℤ pos 1) (pos (exp b) -ℤ pos 2096)) (quotientBy (cond t (M /ᶠ whole 2) M))
+      → lnScaled M (pos (exp b) -ℤ pos 2096) ≡ lnOf (cond t (pos (exp b) -ℤ pos 2096 +ℤ pos 1) (pos (exp b) -ℤ pos 2096)) (quotientBy (cond t (M /ᶠ ofWhole 2) M))
   unfolding lnScaled
   by-test t e =
-      ap (λ (t : Bool). lnOf (cond t (pos (exp b) -ℤ pos 2096 +ℤ pos 1) (pos (exp b) -ℤ pos 2096)) (quotientBy (cond t (M /ᶠ whole 2) M)))
+      ap (λ (t : Bool). lnOf (cond t (pos (exp b) -ℤ pos 2096 +ℤ pos 1) (pos (exp b) -ℤ pos 2096)) (quotientBy (cond t (M /ᶠ ofWhole 2) M)))
       (above-limit (sig b) (omega arith) (omega arith) ∙ e)
 
   by-sum : lnScaled M (pos (exp b) -ℤ pos 2096)
@@ -167,7 +167,7 @@ module _ (v : Float) (f : T (fits binary64 v)) (h : plain v ≡ true) where
   plain-number = less-is-no-nan v (ofBits binary64 0x7ff0_0000_0000_0000) (true-of _ (both .1))
 
   -- its logarithm from the exponent and the quotient
-  pub ln-plain : exponentOf v *ᶠ ratio 6931471805599453 (10 ^ 16) +ᶠ whole 2 *ᶠ quotientOf v *ᶠ series 10 (quotientOf v *ᶠ quotientOf v) (whole 1 /ᶠ whole 21) ≡ ln v
+  pub ln-plain : exponentOf v *ᶠ ratio 6931471805599453 (10 ^ 16) +ᶠ ofWhole 2 *ᶠ quotientOf v *ᶠ series 10 (quotientOf v *ᶠ quotientOf v) (ofWhole 1 /ᶠ ofWhole 21) ≡ ln v
   unfolding lnOf exponentOf quotientOf
   ln-plain =
       let w : Pattern v pattern = pattern-below v f above high-bound in
@@ -177,9 +177,9 @@ module _ (v : Float) (f : T (fits binary64 v)) (h : plain v ≡ true) where
       ∙ by-sum pattern low-bound high-bound)
 
   -- as the last stage has it
-  pub ln-joined : (s P : Float) → s ≡ quotientOf v → Begun 0 s P → exponentOf v *ᶠ ratio 6931471805599453 (10 ^ 16) +ᶠ whole 2 *ᶠ s *ᶠ P ≡ ln v
+  pub ln-joined : (s P : Float) → s ≡ quotientOf v → Begun 0 s P → exponentOf v *ᶠ ratio 6931471805599453 (10 ^ 16) +ᶠ ofWhole 2 *ᶠ s *ᶠ P ≡ ln v
   unfolding Begun series
   ln-joined s P e g =
-      ap (λ (z : Float). exponentOf v *ᶠ ratio 6931471805599453 (10 ^ 16) +ᶠ whole 2 *ᶠ s *ᶠ z) g
-      ∙ ap (λ (z : Float). exponentOf v *ᶠ ratio 6931471805599453 (10 ^ 16) +ᶠ whole 2 *ᶠ z *ᶠ series 10 (z *ᶠ z) (whole 1 /ᶠ whole 21)) e
+      ap (λ (z : Float). exponentOf v *ᶠ ratio 6931471805599453 (10 ^ 16) +ᶠ ofWhole 2 *ᶠ s *ᶠ z) g
+      ∙ ap (λ (z : Float). exponentOf v *ᶠ ratio 6931471805599453 (10 ^ 16) +ᶠ ofWhole 2 *ᶠ z *ᶠ series 10 (z *ᶠ z) (ofWhole 1 /ᶠ ofWhole 21)) e
       ∙ ln-plain

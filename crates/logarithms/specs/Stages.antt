@@ -6,7 +6,7 @@ use mathlib.Core.List.{List}
 use lib.IntN.{pos, _-ℤ_}
 use lib.ListN.{length, getD}
 use lib.Ieee.{Float, nan, binary64, ofBits, toBits, ofInt}
-use Rattle.floats.specs.Numbers.{_-ᶠ_, _+ᶠ_, _*ᶠ_, _/ᶠ_, _<ᶠ_, whole}
+use Rattle.floats.specs.Numbers.{_-ᶠ_, _+ᶠ_, _*ᶠ_, _/ᶠ_, _<ᶠ_, ofWhole}
 use Rattle.elementary.specs.Logarithm.{series}
 
 -- a finite value above the largest subnormal one
@@ -23,7 +23,7 @@ exponentOf v = ofInt binary64 (pos (carriedOf v / 2 ^ 52 + 1073) -ℤ pos 2096)
 
 -- (M - 1) / (M + 1)
 abbrev pub quotientBy : Float → Float
-quotientBy M = (M -ᶠ whole 1) /ᶠ (M +ᶠ whole 1)
+quotientBy M = (M -ᶠ ofWhole 1) /ᶠ (M +ᶠ ofWhole 1)
 
 -- the same of the significand, halved where it carried
 unfoldable pub quotientOf : Float → Float
@@ -31,7 +31,7 @@ quotientOf v = quotientBy (ofBits binary64 (carriedOf v % 2 ^ 52 + 0x3fe6_a09e_6
 
 -- P is where the sum for s stands with k terms still to come
 unfoldable pub Begun : ℕ → Float → Float → Type 0
-Begun k s P = series k (s *ᶠ s) P ≡ series 10 (s *ᶠ s) (whole 1 /ᶠ whole 21)
+Begun k s P = series k (s *ᶠ s) P ≡ series 10 (s *ᶠ s) (ofWhole 1 /ᶠ ofWhole 21)
 
 -- s is the quotient of v
 abbrev pub Split : Float → Float → Type 0

@@ -3,7 +3,11 @@ ghost use mathlib.Core.Path.{_≡_};
 ghost use Prim.Native.Nat.{_+_, _≤_, _<_};
 ghost use lib.ListN.{length};
 ghost use Rattle.losing.specs.Losing.{narrowestIn, secondNumber, putBall, copyLast, hasRoom, displaced, Lost};
+use crate::LAST;
 use crate::LOSING_BALLS;
+use crate::RADII;
+use crate::RUNS;
+use crate::SECONDS;
 use elementary::sqrt;
 use floats::ahead;
 
@@ -14,7 +18,7 @@ pub fn has_room(size: usize, place: usize, count: usize) -> bool
 {
     if count <= LOSING_BALLS {
         if place <= size {
-            return 192 <= size - place;
+            return RUNS <= size - place;
         }
     }
     false
@@ -25,8 +29,8 @@ fn put_ball(balls: &mut [f64], place: usize, i: usize, c: f64, d: f64, r2: f64)
     ensures { λ r. ⌜ now (balls .exit) ≡ putBall (now (balls .entry)) place i c d r2 ⌝ }
 {
     balls[place + i] = c;
-    balls[place + 64 + i] = d;
-    balls[place + 128 + i] = r2;
+    balls[place + SECONDS + i] = d;
+    balls[place + RADII + i] = r2;
 }
 
 // The last of 64 balls goes to place i as well.
@@ -34,9 +38,9 @@ fn copy_last(balls: &mut [f64], place: usize, i: usize)
     requires { ⌜ (place + 192 ≤ length (now balls)) × (i < 64) ⌝ }
     ensures { λ r. ⌜ now (balls .exit) ≡ copyLast (now (balls .entry)) place i ⌝ }
 {
-    let c = balls[place + 63];
-    let d = balls[place + 64 + 63];
-    let r2 = balls[place + 128 + 63];
+    let c = balls[place + LAST];
+    let d = balls[place + SECONDS + LAST];
+    let r2 = balls[place + RADII + LAST];
     put_ball(balls, place, i, c, d, r2);
 }
 
@@ -58,10 +62,10 @@ fn narrowest(balls: &[f64], place: usize) -> usize
 {
     let mut least = 0;
     let mut i = 0;
-    while i < 63 {
-        let shortest = balls[place + 128 + least];
+    while i < LAST {
+        let shortest = balls[place + RADII + least];
         i += 1;
-        if ahead(balls[place + 128 + i], shortest) {
+        if ahead(balls[place + RADII + i], shortest) {
             least = i;
         }
     }
@@ -75,11 +79,11 @@ fn displace(channels: usize, balls: &mut [f64], place: usize, c: f64, d: f64, r2
     ensures { λ r. ⌜ now (balls .exit) ≡ displaced (now (balls .entry)) place c (secondNumber channels d r2) r2 ⌝ }
 {
     let i = narrowest(balls, place);
-    if r2 <= balls[place + 128 + i] {
+    if r2 <= balls[place + RADII + i] {
         return;
     }
     copy_last(balls, place, i);
-    put_ball(balls, place, 63, c, second_number(channels, d, r2), r2);
+    put_ball(balls, place, LAST, c, second_number(channels, d, r2), r2);
 }
 
 // Notes that the candidate whose balls stand here, so many of them, loses inside one more, and says

@@ -10,3 +10,13 @@ pub use balls::lose;
 
 // How many balls a candidate keeps.
 pub const LOSING_BALLS: usize = 64;
+
+// How far from the first run the second and the third begin, and how many floats the three take.
+const SECONDS: usize = LOSING_BALLS;
+
+const RADII: usize = 2 * LOSING_BALLS;
+
+const RUNS: usize = 3 * LOSING_BALLS;
+
+// The place of the last ball of a full list.
+const LAST: usize = LOSING_BALLS - 1;

@@ -4,7 +4,7 @@ use mathlib.Core.List.{List, _++_, map-append}
 use lib.Ieee.{neg, isNan, eq, ne, lt, le, size, add, sub, mul, div, ofInt}
 use Rattle.floats.specs.Numbers.{ratio}
 use Rattle.floats.specs.Finite.{abs}
-use Rattle.floats.specs.MaxMin.{max, min}
+use Rattle.floats.specs.MaxMin.{larger, smaller}
 use Rattle.floats.specs.Ahead.{ahead}
 use Rattle.elementary.specs.Root.{sqrt}
 use Rattle.elementary.specs.Power.{powi, powFrom}
@@ -50,7 +50,7 @@ unfolding outcome searchOutcome areasLeft writtenBy sumsFrom averagesFrom chartA
     functional stateAfter stepOf livingAfter joinOf joinedBy born rangeBox rangeAlong winnersTo cutBack restricted lostTo facing slackOf besides centreAlong bestAt places price
     Inequality.oldEnough Inequality.partOf Inequality.bestAt Inequality.staysAt Inequality.stepOf Inequality.stateAfter Inequality.predecessors Inequality.price
     scanTo betterOf noneYet keptTo costTo costOf l2Cost normalCost smallestNormal segmentOf segmentAbout channelOf hasChannel part meanOf sumTo centred centredTo squaresTo
-    lowestTo highestTo rangeOf max min abs ahead sqrt spanAt withSpan overChannels alongEach gap2 narrowed missed nothing restrict isDominated
+    lowestTo highestTo rangeOf larger smaller abs ahead sqrt spanAt withSpan overChannels alongEach gap2 narrowed missed nothing restrict isDominated
     narrowestTo displace loseInside far2 inside moved cutEnds cutSpan cutBy cutTo cutLosing
     powi powFrom ln lnScaled lnOf series ratio size isNan add sub mul div lt le eq ne neg ofInt
 opened call = outcome call

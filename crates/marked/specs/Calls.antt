@@ -5,7 +5,7 @@ use mathlib.Core.List.{List, [], _∷_, map}
 use mathlib.Core.Option.{Option}
 use lib.ListN.{length}
 use lib.Ieee.{Float, eq}
-use Rattle.floats.specs.Numbers.{+0, whole}
+use Rattle.floats.specs.Numbers.{+0, ofWhole}
 use Rattle.refusals.specs.Said.{Said, refused, answered, tried}
 use Rattle.refusals.specs.declared.Refusal.{Refusal}
 use Rattle.readings.specs.Shape.{firstLength}
@@ -106,4 +106,4 @@ outcome (ewmaPoints c xs entry) =
     points said (writtenBy said found entry)
 outcome (lose b balls asked) =
     let left = loseInside b balls in
-    losing (length left) (map (λ (q : ℕ × ℕ). eq (at (ballAt left (q .0) .centre) 0) (whole (q .1))) asked)
+    losing (length left) (map (λ (q : ℕ × ℕ). eq (at (ballAt left (q .0) .centre) 0) (ofWhole (q .1))) asked)

@@ -4,7 +4,7 @@ use mathlib.Core.Bool.{true, false}
 use mathlib.Core.List.{List, [], _∷_, _++_}
 use lib.ListN.{replicate}
 use lib.Ieee.{Float, nan, neg}
-use Rattle.floats.specs.Numbers.{+0, +∞, -∞, whole, ratio}
+use Rattle.floats.specs.Numbers.{+0, +∞, -∞, ofWhole, ratio}
 use Rattle.refusals.specs.Stated.{plain}
 use Rattle.costs.specs.declared.CostFunction.the-variants.{L2, Normal}
 use Rattle.costs.specs.declared.Penalty.the-variants.{Bic, Custom}
@@ -18,7 +18,7 @@ use Rattle.marked.specs.Marked.{step, gap, sums, averages}
 
 -- four readings alike
 abbrev level : List Float
-level = replicate 4 (whole 1)
+level = replicate 4 (ofWhole 1)
 
 -- a chart whose sigma is 0
 abbrev badSums : Cusum
@@ -99,7 +99,7 @@ refusalRows =
     -- Q26 one that is no number
     ∷ refuses (plainly L2 (Custom nan) 2 step 2) (plain 1)
     -- Q27 one below 0
-    ∷ refuses (plainly L2 (Custom (neg (whole 1))) 2 step 2) (plain 1)
+    ∷ refuses (plainly L2 (Custom (neg (ofWhole 1))) 2 step 2) (plain 1)
     -- Q28 2 before 3
     ∷ refuses (among false L2 (custom 1) 1 [] (replicate 9 0) 0) (plain 2)
     -- Q29 3 before 4
@@ -127,7 +127,7 @@ refusalRows =
     -- Q40 8 also where no search is run
     ∷ refuses (strictly L2 (custom 1) 3 gap 0) (gapAt 0 1)
     -- Q41 an infinity
-    ∷ refuses (strictly L2 (custom 1) 2 (whole 0 ∷ whole 0 ∷ whole 4 ∷ -∞ ∷ []) 2) (gapAt 0 3)
+    ∷ refuses (strictly L2 (custom 1) 2 (ofWhole 0 ∷ ofWhole 0 ∷ ofWhole 4 ∷ -∞ ∷ []) 2) (gapAt 0 3)
     -- Q42 the lowest channel first, then the lowest index
     ∷ refuses (among true L2 (custom 1) 2 (wholes (0 ∷ 0 ∷ 4 ∷ []) ++ (nan ∷ nan ∷ wholes (0 ∷ 4 ∷ 4 ∷ []))) (4 ∷ 4 ∷ []) 3) (gapAt 0 3)
     -- Q43 a gap in the second channel
@@ -140,13 +140,13 @@ refusalRows =
 unfoldable pub chartRows : List Row
 chartRows =
     -- Q45 a signal resets nothing
-    sumsAre sums (wholes (8 ∷ 0 ∷ [])) ((ratio 15 2, +0, true) ∷ (whole 7, +0, true) ∷ [])
+    sumsAre sums (wholes (8 ∷ 0 ∷ [])) ((ratio 15 2, +0, true) ∷ (ofWhole 7, +0, true) ∷ [])
     -- Q46 the lower sum
-    ∷ sumsAre sums (neg (whole 8) ∷ whole 8 ∷ []) ((+0, ratio 15 2, true) ∷ (ratio 15 2, +0, true) ∷ [])
+    ∷ sumsAre sums (neg (ofWhole 8) ∷ ofWhole 8 ∷ []) ((+0, ratio 15 2, true) ∷ (ratio 15 2, +0, true) ∷ [])
     -- Q47 infinity less infinity is no number, and the sum 0
     ∷ sumsAre (Cusum.newOf +0 (ratio 1 (10 ^ 300))) (ratio (10 ^ 300) 1 ∷ neg (ratio (10 ^ 300) 1) ∷ []) ((+∞, +0, true) ∷ (+0, +∞, true) ∷ [])
     -- Q48 a gap is no signal, and its index is used up
-    ∷ sumsSignal sums (whole 8 ∷ nan ∷ whole 8 ∷ []) 2 (0 ∷ 2 ∷ 7 ∷ [])
+    ∷ sumsSignal sums (ofWhole 8 ∷ nan ∷ ofWhole 8 ∷ []) 2 (0 ∷ 2 ∷ 7 ∷ [])
     -- Q49 11 before 6
     ∷ sumsRefuse badSums tooMany 0 (plain 11)
     -- Q50 6 before 7
@@ -154,35 +154,35 @@ chartRows =
     -- Q51 4,096 readings are not too many, and a record short
     ∷ sumsRefuse sums (replicate 4096 +0) 4095 (plain 7)
     -- Q52 the run length of the lower side
-    ∷ hears sums (neg (whole 3)) Lower 3
+    ∷ hears sums (neg (ofWhole 3)) Lower 3
     -- Q53 11 before 8
     ∷ refusesToHear badSums nan Upper (plain 11)
     -- Q54 a level that is not finite
     ∷ refusesToHear sums +∞ Upper (gapAt 0 0)
     -- Q55 a gap is no signal of an EWMA
-    ∷ averagesAre averages (whole 4 ∷ nan ∷ []) ((whole 4, neg (whole 3), whole 3, true) ∷ (whole 4, neg (whole 3), whole 3, false) ∷ [])
+    ∷ averagesAre averages (ofWhole 4 ∷ nan ∷ []) ((ofWhole 4, neg (ofWhole 3), ofWhole 3, true) ∷ (ofWhole 4, neg (ofWhole 3), ofWhole 3, false) ∷ [])
     -- Q56 limits by the place, from 1: with lambda 0.5 and L 4 the first are -2 and 2
-    ∷ averagesAre (Ewma.withParams +0 (whole 1) (ratio 1 2) (whole 4)) (whole 1 ∷ []) ((ratio 1 2, neg (whole 2), whole 2, false) ∷ [])
+    ∷ averagesAre (Ewma.withParams +0 (ofWhole 1) (ratio 1 2) (ofWhole 4)) (ofWhole 1 ∷ []) ((ratio 1 2, neg (ofWhole 2), ofWhole 2, false) ∷ [])
     -- Q57 the second are beyond 2.125
-    ∷ averagesSignal (Ewma.withParams +0 (whole 1) (ratio 1 2) (whole 4)) (whole 0 ∷ ratio 17 4 ∷ []) 0 (7 ∷ 7 ∷ [])
+    ∷ averagesSignal (Ewma.withParams +0 (ofWhole 1) (ratio 1 2) (ofWhole 4)) (ofWhole 0 ∷ ratio 17 4 ∷ []) 0 (7 ∷ 7 ∷ [])
     -- Q58 and below 2.25
-    ∷ averagesSignal (Ewma.withParams +0 (whole 1) (ratio 1 2) (whole 4)) (whole 0 ∷ ratio 9 2 ∷ []) 1 (1 ∷ 7 ∷ [])
+    ∷ averagesSignal (Ewma.withParams +0 (ofWhole 1) (ratio 1 2) (ofWhole 4)) (ofWhole 0 ∷ ratio 9 2 ∷ []) 1 (1 ∷ 7 ∷ [])
     -- Q59 lambda 0, and no room
-    ∷ averagesRefuse (Ewma.withParams +0 (whole 1) +0 (whole 3)) (wholes (3 ∷ [])) 0 (plain 11)
+    ∷ averagesRefuse (Ewma.withParams +0 (ofWhole 1) +0 (ofWhole 3)) (wholes (3 ∷ [])) 0 (plain 11)
     ∷ []
 
 -- ---- the balls of a candidate, of which it keeps 64
 
 -- two of them are the narrowest, at places 1 and 2
 abbrev full : List Ball
-full = ball 0 (whole 5) ∷ ball 1 (whole 1) ∷ ball 2 (whole 1) ∷ (replicate 60 (ball 3 (whole 5)) ++ (ball 4 (whole 5) ∷ []))
+full = ball 0 (ofWhole 5) ∷ ball 1 (ofWhole 1) ∷ ball 2 (ofWhole 1) ∷ (replicate 60 (ball 3 (ofWhole 5)) ++ (ball 4 (ofWhole 5) ∷ []))
 
 unfoldable pub ballRows : List Row
 ballRows =
     -- Q60 the last ball moves into the place of the earliest narrowest one, and the 65th goes last
-    keeps (ball 5 (whole 2)) full 64 0 4 2 5
+    keeps (ball 5 (ofWhole 2)) full 64 0 4 2 5
     -- Q61 a 65th as narrow as that is turned away
-    ∷ keeps (ball 5 (whole 1)) full 64 0 1 2 4
+    ∷ keeps (ball 5 (ofWhole 1)) full 64 0 1 2 4
     -- Q62 one whose radius is no number enters
     ∷ keeps (ball 5 nan) full 64 0 4 2 5
     ∷ []

@@ -2,7 +2,7 @@
 use mathlib.Core.Bool.{true, false}
 use mathlib.Core.List.{List, [], _∷_}
 use lib.Ieee.{Float, nan, neg}
-use Rattle.floats.specs.Numbers.{+0, whole, ratio}
+use Rattle.floats.specs.Numbers.{+0, ofWhole, ratio}
 use Rattle.refusals.specs.Stated.{plain}
 use Rattle.costs.specs.declared.CostFunction.the-variants.{L2}
 use Rattle.costs.specs.declared.Penalty.the-variants.{Bic}
@@ -18,14 +18,14 @@ abbrev pub step : List Float
 step = wholes (0 ∷ 0 ∷ 4 ∷ 4 ∷ [])
 
 abbrev pub gap : List Float
-gap = whole 0 ∷ nan ∷ whole 4 ∷ whole 4 ∷ []
+gap = ofWhole 0 ∷ nan ∷ ofWhole 4 ∷ ofWhole 4 ∷ []
 
 -- target 0, sigma 1: a CUSUM with the defaults; an EWMA with lambda 1 and L 3
 abbrev pub sums : Cusum
-sums = Cusum.newOf +0 (whole 1)
+sums = Cusum.newOf +0 (ofWhole 1)
 
 abbrev pub averages : Ewma
-averages = Ewma.withParams +0 (whole 1) (whole 1) (whole 3)
+averages = Ewma.withParams +0 (ofWhole 1) (ofWhole 1) (ofWhole 3)
 
 unfoldable pub markedRows : List Row
 markedRows =
@@ -44,10 +44,10 @@ markedRows =
     ∷ finds (plainly L2 (custom 1) 2 gap 3) 0 (7 ∷ 7 ∷ [])
     ∷ refuses (strictly L2 (custom 1) 2 gap 3) (gapAt 0 1)
     -- P10, P11, P12
-    ∷ sumsAre sums (wholes (3 ∷ 3 ∷ 3 ∷ [])) ((ratio 5 2, +0, false) ∷ (whole 5, +0, false) ∷ (ratio 15 2, +0, true) ∷ [])
-    ∷ hears sums (whole 3) Upper 3
-    ∷ sumsAre sums (whole 8 ∷ nan ∷ []) ((ratio 15 2, +0, true) ∷ (ratio 15 2, +0, false) ∷ [])
+    ∷ sumsAre sums (wholes (3 ∷ 3 ∷ 3 ∷ [])) ((ratio 5 2, +0, false) ∷ (ofWhole 5, +0, false) ∷ (ratio 15 2, +0, true) ∷ [])
+    ∷ hears sums (ofWhole 3) Upper 3
+    ∷ sumsAre sums (ofWhole 8 ∷ nan ∷ []) ((ratio 15 2, +0, true) ∷ (ratio 15 2, +0, false) ∷ [])
     -- P13: limits -3 and 3; 3 is no signal, 3.5 is one
-    ∷ averagesAre averages (whole 3 ∷ []) ((whole 3, neg (whole 3), whole 3, false) ∷ [])
-    ∷ averagesAre averages (ratio 7 2 ∷ []) ((ratio 7 2, neg (whole 3), whole 3, true) ∷ [])
+    ∷ averagesAre averages (ofWhole 3 ∷ []) ((ofWhole 3, neg (ofWhole 3), ofWhole 3, false) ∷ [])
+    ∷ averagesAre averages (ratio 7 2 ∷ []) ((ratio 7 2, neg (ofWhole 3), ofWhole 3, true) ∷ [])
     ∷ []

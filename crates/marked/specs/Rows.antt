@@ -5,7 +5,7 @@ use mathlib.Core.Bool.{Bool, true, false}
 use mathlib.Core.List.{List, [], _∷_, _++_, map}
 use lib.ListN.{length, replicate}
 use lib.Ieee.{Float}
-use Rattle.floats.specs.Numbers.{+0, whole, ratio}
+use Rattle.floats.specs.Numbers.{+0, ofWhole, ratio}
 use Rattle.refusals.specs.Stated.{Stated, plain}
 use Rattle.refusals.specs.Said.{answered, refused}
 use Rattle.readings.specs.Shape.{firstLength}
@@ -33,20 +33,20 @@ Hold rows = map (λ (r : Row). outcome (r .call)) rows ≡ map (λ (r : Row). r 
 
 -- whole numbers as readings
 abbrev pub wholes : List ℕ → List Float
-wholes = map (λ n. whole n)
+wholes = map (λ n. ofWhole n)
 
 -- ---- searches
 
 -- a custom penalty, and one of so many halves
 abbrev pub custom : ℕ → Penalty
-custom n = Custom (whole n)
+custom n = Custom (ofWhole n)
 
 abbrev pub halves : ℕ → Penalty
 halves n = Custom (ratio n 2)
 
 -- areas of so many cuts, floats, indices and pool floats
 abbrev pub sevens : ℕ → ℕ → ℕ → ℕ → Areas
-sevens cuts floats indices pool = record { cuts = replicate cuts 7; floats = replicate floats (whole 7); indices = replicate indices 7; pool = replicate pool (whole 7) }
+sevens cuts floats indices pool = record { cuts = replicate cuts 7; floats = replicate floats (ofWhole 7); indices = replicate indices 7; pool = replicate pool (ofWhole 7) }
 
 -- exactly the room that k channels of n readings ask for, and some slots
 abbrev pub roomFor : ℕ → ℕ → ℕ → Areas
@@ -92,10 +92,10 @@ gapAt channel index = record { number = 8; values = channel ∷ index ∷ [] }
 
 -- what their slices hold
 abbrev pub lentSums : CusumResult
-lentSums = record { «s_upper» = whole 7; «s_lower» = whole 7; signal = true; index = record { 0 = 7 } }
+lentSums = record { «s_upper» = ofWhole 7; «s_lower» = ofWhole 7; signal = true; index = record { 0 = 7 } }
 
 abbrev pub lentAverage : EwmaResult
-lentAverage = record { ewma = whole 7; ucl = whole 7; lcl = whole 7; signal = true; index = record { 0 = 7 } }
+lentAverage = record { ewma = ofWhole 7; ucl = ofWhole 7; lcl = ofWhole 7; signal = true; index = record { 0 = 7 } }
 
 -- records by the upper sum, the lower sum and the signal, their indices from i on
 unfoldable pub sumsFrom : ℕ → List (Float × Float × Bool) → List CusumResult
@@ -140,7 +140,7 @@ refusesToHear c level side reason = record { call = runLength c level side; expe
 
 -- a ball about a whole number, with this square of its radius
 abbrev pub ball : ℕ → Float → Ball
-ball centre r2 = ballOf (whole centre) +0 r2
+ball centre r2 = ballOf (ofWhole centre) +0 r2
 
 -- how many balls a candidate keeps once it loses inside one more, and about which whole numbers those at places 0, 1, 2 and 63 are
 abbrev pub keeps : Ball → List Ball → ℕ → ℕ → ℕ → ℕ → ℕ → Row

@@ -14,79 +14,79 @@ use lib.Ieee.{Float, nan, lt}
 use lib.Ieee.Bits.{is-true}
 use Rattle.floats.specs.Ahead.{ahead}
 use Rattle.floats.proofs.Order.Laws.{number, le-left, lt→le, lt-then-le}
-use Rattle.medians.specs.Ranks.{count, Each, magnitude, below, rankedOf, between, kept}
+use Rattle.medians.specs.Ranks.{count, Each, magnitude, countBelow, rankedOf, inBracket, passing}
 use Rattle.medians.proofs.OrderLaws.{holds, ahead-of-number}
 use Rattle.medians.proofs.CountLaws.{one, count-length, counts-each}
 use Rattle.medians.proofs.SortLaws.{sorted-count, sorted-length}
 use Rattle.medians.proofs.RankLaws.{both-parts, by-counts, ranked-few, ranked-many}
 
 module _ (p : Float → Bool) where
-  kept-in : (x : Float) (xs : List Float) → p x ≡ true → kept p (x ∷ xs) ≡ x ∷ kept p xs
-  unfolding kept
-  kept-in x xs e = ap (λ (b : Bool). elim b [ true ↦ x ∷ kept p xs | false ↦ kept p xs ]) e
+  kept-in : (x : Float) (xs : List Float) → p x ≡ true → passing p (x ∷ xs) ≡ x ∷ passing p xs
+  unfolding passing
+  kept-in x xs e = ap (λ (b : Bool). elim b [ true ↦ x ∷ passing p xs | false ↦ passing p xs ]) e
 
-  kept-out : (x : Float) (xs : List Float) → p x ≡ false → kept p (x ∷ xs) ≡ kept p xs
-  unfolding kept
-  kept-out x xs e = ap (λ (b : Bool). elim b [ true ↦ x ∷ kept p xs | false ↦ kept p xs ]) e
+  kept-out : (x : Float) (xs : List Float) → p x ≡ false → passing p (x ∷ xs) ≡ passing p xs
+  unfolding passing
+  kept-out x xs e = ap (λ (b : Bool). elim b [ true ↦ x ∷ passing p xs | false ↦ passing p xs ]) e
 
   -- what is counted among them passes both tests
-  pub kept-count : (q : Float → Bool) (xs : List Float) → count q (kept p xs) ≡ count (λ (y : Float). p y && q y) xs
-  unfolding count kept
+  pub kept-count : (q : Float → Bool) (xs : List Float) → count q (passing p xs) ≡ count (λ (y : Float). p y && q y) xs
+  unfolding count passing
   kept-count q [] = refl
   kept-count q (x ∷ xs) = side (p x) (kept-count q xs)
     where
-      side : (b : Bool) → count q (kept p xs) ≡ count (λ (y : Float). p y && q y) xs
-          → count q (elim b [ true ↦ x ∷ kept p xs | false ↦ kept p xs ]) ≡ one (b && q x) + count (λ (y : Float). p y && q y) xs
+      side : (b : Bool) → count q (passing p xs) ≡ count (λ (y : Float). p y && q y) xs
+          → count q (elim b [ true ↦ x ∷ passing p xs | false ↦ passing p xs ]) ≡ one (b && q x) + count (λ (y : Float). p y && q y) xs
       side true h = ap (λ (n : ℕ). one (q x) + n) h
       side false h = h ∙ omega arith
 
-  pub kept-length : (xs : List Float) → length (kept p xs) ≡ count p xs
-  unfolding count kept
+  pub kept-length : (xs : List Float) → length (passing p xs) ≡ count p xs
+  unfolding count passing
   kept-length [] = refl
   kept-length (x ∷ xs) = side (p x) (kept-length xs)
     where
-      side : (b : Bool) → length (kept p xs) ≡ count p xs → length {A = Float} (elim b [ true ↦ x ∷ kept p xs | false ↦ kept p xs ]) ≡ one b + count p xs
+      side : (b : Bool) → length (passing p xs) ≡ count p xs → length {A = Float} (elim b [ true ↦ x ∷ passing p xs | false ↦ passing p xs ]) ≡ one b + count p xs
       side true h = omega (arith, h)
       side false h = omega (arith, h)
 
   -- each of them passes it, and every test that all passed
-  pub kept-each : (q : Float → Bool) (xs : List Float) → ((i : ℕ) → i < length xs → p (getD xs i nan) ≡ true → q (getD xs i nan) ≡ true) → Each q (kept p xs)
-  unfolding kept
+  pub kept-each : (q : Float → Bool) (xs : List Float) → ((i : ℕ) → i < length xs → p (getD xs i nan) ≡ true → q (getD xs i nan) ≡ true) → Each q (passing p xs)
+  unfolding passing
   kept-each q [] h = record { each = λ i l. absurd (not-suc-le-zero l) }
   kept-each q (x ∷ xs) h = side (p x) refl (kept-each q xs (λ i l. h (suc i) (suc-le-suc l)))
     where
-      side : (b : Bool) → p x ≡ b → Each q (kept p xs) → Each q (elim b [ true ↦ x ∷ kept p xs | false ↦ kept p xs ])
+      side : (b : Bool) → p x ≡ b → Each q (passing p xs) → Each q (elim b [ true ↦ x ∷ passing p xs | false ↦ passing p xs ])
       side false e k = k
       side true e k = record { each = λ i l. first i l }
         where
-          first : (i : ℕ) → i < length (x ∷ kept p xs) → q (getD (x ∷ kept p xs) i nan) ≡ true
+          first : (i : ℕ) → i < length (x ∷ passing p xs) → q (getD (x ∷ passing p xs) i nan) ≡ true
           first zero l = h 0 (suc-le-suc zero-le) e
           first (suc i) l = k .each i (le-of-suc-le-suc l)
 
-  kept-append : (xs ys : List Float) → kept p (xs ++ ys) ≡ kept p xs ++ kept p ys
-  unfolding kept
+  kept-append : (xs ys : List Float) → passing p (xs ++ ys) ≡ passing p xs ++ passing p ys
+  unfolding passing
   kept-append [] ys = refl
   kept-append (x ∷ xs) ys = side (p x) (kept-append xs ys)
     where
-      side : (b : Bool) → kept p (xs ++ ys) ≡ kept p xs ++ kept p ys
-          → elim b [ true ↦ x ∷ kept p (xs ++ ys) | false ↦ kept p (xs ++ ys) ] ≡ elim b [ true ↦ x ∷ kept p xs | false ↦ kept p xs ] ++ kept p ys
+      side : (b : Bool) → passing p (xs ++ ys) ≡ passing p xs ++ passing p ys
+          → elim b [ true ↦ x ∷ passing p (xs ++ ys) | false ↦ passing p (xs ++ ys) ] ≡ elim b [ true ↦ x ∷ passing p xs | false ↦ passing p xs ] ++ passing p ys
       side true h = ap (λ (l : List Float). x ∷ l) h
       side false h = h
 
-  kept-one : (x : Float) → p x ≡ true → kept p (x ∷ []) ≡ x ∷ []
-  unfolding kept
+  kept-one : (x : Float) → p x ≡ true → passing p (x ∷ []) ≡ x ∷ []
+  unfolding passing
   kept-one x e = kept-in x [] e
 
-  kept-none : (x : Float) → p x ≡ false → kept p (x ∷ []) ≡ []
-  unfolding kept
+  kept-none : (x : Float) → p x ≡ false → passing p (x ∷ []) ≡ []
+  unfolding passing
   kept-none x e = kept-out x [] e
 
   -- a loop over the values: one that passes, one that does not, and the end
-  pub gathered-in : (xs : List Float) (i : ℕ) → i < length xs → p (getD xs i nan) ≡ true → kept p (take (i + 1) xs) ≡ kept p (take i xs) ++ (getD xs i nan ∷ [])
-  gathered-in xs i h e = rw add-one (ap (kept p) (take-suc xs i nan h) ∙ kept-append (take i xs) (getD xs i nan ∷ []) ∙ ap (λ (l : List Float). kept p (take i xs) ++ l) (kept-one (getD xs i nan) e))
+  pub gathered-in : (xs : List Float) (i : ℕ) → i < length xs → p (getD xs i nan) ≡ true → passing p (take (i + 1) xs) ≡ passing p (take i xs) ++ (getD xs i nan ∷ [])
+  gathered-in xs i h e = rw add-one (ap (passing p) (take-suc xs i nan h) ∙ kept-append (take i xs) (getD xs i nan ∷ []) ∙ ap (λ (l : List Float). passing p (take i xs) ++ l) (kept-one (getD xs i nan) e))
 
-  pub gathered-out : (xs : List Float) (i : ℕ) → i < length xs → p (getD xs i nan) ≡ false → kept p (take (i + 1) xs) ≡ kept p (take i xs)
-  gathered-out xs i h e = rw add-one (ap (kept p) (take-suc xs i nan h) ∙ kept-append (take i xs) (getD xs i nan ∷ []) ∙ ap (λ (l : List Float). kept p (take i xs) ++ l) (kept-none (getD xs i nan) e) ∙ append-nil (kept p (take i xs)))
+  pub gathered-out : (xs : List Float) (i : ℕ) → i < length xs → p (getD xs i nan) ≡ false → passing p (take (i + 1) xs) ≡ passing p (take i xs)
+  gathered-out xs i h e = rw add-one (ap (passing p) (take-suc xs i nan h) ∙ kept-append (take i xs) (getD xs i nan ∷ []) ∙ ap (λ (l : List Float). passing p (take i xs) ++ l) (kept-none (getD xs i nan) e) ∙ append-nil (passing p (take i xs)))
 
 -- ---- counts by two tests
 module _ (p q r : Float → Bool) where
@@ -112,11 +112,11 @@ number-left : (x y : Float) → lt x y ≡ true → T (number x)
 number-left x y e = le-left x y (lt→le x y (holds e))
 
 -- ---- the value at a place between two values stands among those that are between them, as many places further on as are below the low one
-module _ (xs : List Float) (k : ℕ) (lo hi : Float) (few : below lo xs ≤ k) (many : k < below hi xs) (ordered : (y : Float) → lt y lo ≡ true → lt y hi ≡ true) where
+module _ (xs : List Float) (k : ℕ) (lo hi : Float) (few : countBelow lo xs ≤ k) (many : k < countBelow hi xs) (ordered : (y : Float) → lt y lo ≡ true → lt y hi ≡ true) where
   abbrev test : Float → Bool
-  test = between lo hi
+  test = inBracket lo hi
 
-  pub between-count : below hi xs ≡ below lo xs + count test xs
+  pub between-count : countBelow hi xs ≡ countBelow lo xs + count test xs
   between-count = count-parts (λ (y : Float). lt y hi) (λ (y : Float). lt y lo) test xs (λ y. side (lt y lo) (lt y hi) (ordered y))
     where
       side : (a b : Bool) → (a ≡ true → b ≡ true) → one b ≡ one a + one (b && not a)
@@ -126,16 +126,16 @@ module _ (xs : List Float) (k : ℕ) (lo hi : Float) (few : below lo xs ≤ k) (
       side false false h = refl
 
   abbrev place : ℕ
-  place = k - below lo xs
+  place = k - countBelow lo xs
 
-  pub inside-kept : place < length (kept test xs)
+  pub inside-kept : place < length (passing test xs)
   inside-kept = omega (arith, kept-length test xs, between-count, few, many)
 
   abbrev v : Float
-  v = rankedOf (kept test xs) place
+  v = rankedOf (passing test xs) place
 
   v-between : test v ≡ true
-  v-between = counts-each (λ q. sorted-count q (kept test xs)) (kept-each test test xs (λ i l e. e)) .each place (omega (arith, inside-kept, sorted-length (kept test xs)))
+  v-between = counts-each (λ q. sorted-count q (passing test xs)) (kept-each test test xs (λ i l e. e)) .each place (omega (arith, inside-kept, sorted-length (passing test xs)))
 
   below-high : lt v hi ≡ true
   below-high = both-parts (lt v hi) (not (lt v lo)) v-between .0
@@ -146,7 +146,7 @@ module _ (xs : List Float) (k : ℕ) (lo hi : Float) (few : below lo xs ≤ k) (
   few-ahead : count (λ (y : Float). ahead y v) xs ≤ k
   few-ahead =
       let c = count-either (λ (y : Float). ahead y v) (λ (y : Float). lt y lo) (λ (y : Float). test y && ahead y v) xs (λ y. side y (lt y lo) (ahead y v) refl refl) in
-      omega (arith, c, few, kept-count test (λ (y : Float). ahead y v) xs, ranked-few (kept test xs) place inside-kept)
+      omega (arith, c, few, kept-count test (λ (y : Float). ahead y v) xs, ranked-few (passing test xs) place inside-kept)
     where
       side : (y : Float) (a b : Bool) → lt y lo ≡ a → ahead y v ≡ b → one b ≤ one a + one (lt y hi && not a && b)
       side y a false e f = zero-le
@@ -156,7 +156,7 @@ module _ (xs : List Float) (k : ℕ) (lo hi : Float) (few : below lo xs ≤ k) (
   many-not-behind : k < count (λ (y : Float). not (ahead v y)) xs
   many-not-behind =
       let c = count-apart (λ (y : Float). not (ahead v y)) (λ (y : Float). lt y lo) (λ (y : Float). test y && not (ahead v y)) xs (λ y. side y (lt y lo) (ahead v y) refl refl) in
-      omega (arith, c, few, kept-count test (λ (y : Float). not (ahead v y)) xs, ranked-many (kept test xs) place inside-kept)
+      omega (arith, c, few, kept-count test (λ (y : Float). not (ahead v y)) xs, ranked-many (passing test xs) place inside-kept)
     where
       never : (y : Float) → lt y lo ≡ true → ahead v y ≡ true → ⊥
       never y e f = true≢false (sym (lt-transitive v y lo (sym (ahead-of-number v y (number-left y lo e)) ∙ f) e) ∙ not-below-low)
@@ -179,10 +179,10 @@ module _ (xs : List Float) (k : ℕ) (lo hi : Float) (few : below lo xs ≤ k) (
           most true = omega arith
           most false = omega arith
 
-  pub ranked-kept : Each magnitude xs → rankedOf (kept test xs) place ≡ rankedOf xs k
+  pub ranked-kept : Each magnitude xs → rankedOf (passing test xs) place ≡ rankedOf xs k
   ranked-kept m =
       by-counts xs k v (lt-of-lt-of-le many (count-length (λ (y : Float). lt y hi) xs)) few-ahead many-not-behind m
-      (counts-each (λ q. sorted-count q (kept test xs)) (kept-each test magnitude xs (λ i l e. m .each i l)) .each place (omega (arith, inside-kept, sorted-length (kept test xs))))
+      (counts-each (λ q. sorted-count q (passing test xs)) (kept-each test magnitude xs (λ i l e. m .each i l)) .each place (omega (arith, inside-kept, sorted-length (passing test xs))))
 
 -- ---- the front of a list
 pub front-length : (n : ℕ) (xs : List Float) → n ≤ length xs → length (take n xs) ≡ n

@@ -16,7 +16,7 @@ use native.Mathlib.Nat.{le-refl, le-trans, lt-of-lt-of-le}
 use Rattle.floats.proofs.Order.Laws.{number}
 use Rattle.floats.proofs.Order.Patterns.{unsigned, pattern-order, pattern-most, pattern-of}
 use Rattle.medians.specs.Order.{sorted}
-use Rattle.medians.specs.Ranks.{count, Each, magnitude, below, numbers, rankedOf, highest, Near}
+use Rattle.medians.specs.Ranks.{count, Each, magnitude, countBelow, numbers, rankedOf, highest, Near}
 use Rattle.medians.proofs.OrderLaws.{holds, ahead-of-number, ahead-of-later}
 use Rattle.medians.proofs.CountLaws.{count-most, count-least, count-implied, counts-each}
 use Rattle.medians.proofs.MagnitudeLaws.{level-equal}

@@ -18,6 +18,9 @@ use crate::rank::sampled;
 use areas::clear_floats;
 use floats::from_bits;
 
+// The most values of a bracket that are copied aside and put in order.
+const GATHERED: usize = 64;
+
 // Cost: one turn for each difference.
 fn difference(channel: &[f64], run: &mut [f64])
     requires { ⌜ length (now run) + 1 ≡ length (now channel) ⌝ }
@@ -63,7 +66,7 @@ fn within_bracket(run: &[f64], b: Bracket, first: usize, second: usize) -> Middl
     requires { ⌜ Around (now run) first b × (wide b 1 64 ≡ false) × (first ≤ second) × (second < b .upto) × Each magnitude (now run) ⌝ }
     ensures { λ r. ⌜ (r .low ≡ rankedOf (now (run .entry)) first) × (r .high ≡ rankedOf (now (run .entry)) second) ⌝ }
 {
-    if b.upto - b.under <= 64 {
+    if b.upto - b.under <= GATHERED {
         return among_few(run, b, first, second);
     }
     let value = from_bits(b.low);
@@ -80,11 +83,17 @@ fn near_middle(run: &[f64], place: usize, start: Bracket) -> Bracket
     requires { ⌜ Around (now run) place start × (256 ≤ length (now run)) × Each magnitude (now run) ⌝ }
     ensures { λ r. ⌜ Around (now (run .entry)) place r × (wide r 1 64 ≡ false) ⌝ }
 {
-    let b = narrowed(run, place, sampled(run, place, start), 0x4000_0000_0000, 64);
-    if b.upto - b.under <= 64 {
+    let b = narrowed(
+        run,
+        place,
+        sampled(run, place, start),
+        0x4000_0000_0000,
+        GATHERED,
+    );
+    if b.upto - b.under <= GATHERED {
         return b;
     }
-    narrowed(run, place, guessed(run, place, b), 1, 64)
+    narrowed(run, place, guessed(run, place, b), 1, GATHERED)
 }
 
 // The two middle values of a run. Cost: that of a bracket around them, and at most twice that of finding a

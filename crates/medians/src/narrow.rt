@@ -2,12 +2,12 @@
 ghost use mathlib.Core.Path.{_≡_};
 ghost use mathlib.Core.Bool.{false};
 ghost use Prim.Native.Nat.{_-_, _≤_, _<_};
-ghost use Rattle.medians.specs.Ranks.{below, highest, Around, wide};
+ghost use Rattle.medians.specs.Ranks.{countBelow, highest, Around, wide};
 use crate::Bracket;
 
 // How many values are below x. Cost: one turn for each value.
 pub(crate) fn count_below(run: &[f64], x: f64) -> usize
-    ensures { λ r. ⌜ r ≡ below x (now (run .entry)) ⌝ }
+    ensures { λ r. ⌜ r ≡ countBelow x (now (run .entry)) ⌝ }
 {
     let mut count = 0;
     let mut i = 0;

@@ -2,7 +2,7 @@
 ghost use mathlib.Core.Path.{_≡_};
 ghost use Prim.Native.Nat.{_≤_, _<_};
 ghost use lib.ListN.{length, take};
-ghost use Rattle.medians.specs.Ranks.{Each, magnitude, count, numbers, rankedOf, Around, between, kept};
+ghost use Rattle.medians.specs.Ranks.{Each, magnitude, count, numbers, rankedOf, Around, inBracket, passing};
 use crate::Bracket;
 use crate::narrow::count_below;
 use crate::narrow::narrowed;
@@ -44,7 +44,7 @@ pub(crate) fn ranked(run: &[f64], place: usize) -> f64
 
 // Whether a value is below high and not below low.
 fn is_between(value: f64, low: f64, high: f64) -> bool
-    ensures { λ r. ⌜ r ≡ between low high value ⌝ }
+    ensures { λ r. ⌜ r ≡ inBracket low high value ⌝ }
 {
     (value < high) & !(value < low)
 }
@@ -53,8 +53,8 @@ fn is_between(value: f64, low: f64, high: f64) -> bool
 // it is known whether it is one of them, which saves a branch that would be guessed wrong every other
 // turn; so the part has a place more than they take. Cost: one turn for each value.
 pub(crate) fn gather(run: &[f64], low: f64, high: f64, part: &mut [f64]) -> usize
-    requires { ⌜ count (between low high) (now run) < length (now part) ⌝ }
-    ensures { λ r. ⌜ (r ≡ length (kept (between low high) (now (run .entry)))) × (take r (now (part .exit)) ≡ kept (between low high) (now (run .entry))) ⌝ }
+    requires { ⌜ count (inBracket low high) (now run) < length (now part) ⌝ }
+    ensures { λ r. ⌜ (r ≡ length (passing (inBracket low high) (now (run .entry)))) × (take r (now (part .exit)) ≡ passing (inBracket low high) (now (run .entry))) ⌝ }
 {
     let mut size = 0;
     let mut i = 0;

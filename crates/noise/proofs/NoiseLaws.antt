@@ -11,7 +11,7 @@ use lib.ListN.{length, take, drop, replicate, take-append-drop, length-append, l
 use lib.Seq.{drop-drop, take-take, take-at, drop-at, length-take-le}
 use lib.Ieee.{Float, nan}
 use Rattle.floats.specs.Numbers.{_+ᶠ_, +0}
-use Rattle.floats.specs.MaxMin.{max}
+use Rattle.floats.specs.MaxMin.{larger}
 use Rattle.readings.specs.Parts.{part}
 use Rattle.readings.specs.Channels.{hasChannel, channelOf}
 use Rattle.readings.proofs.PartLaws.{part-length}
@@ -27,7 +27,7 @@ pub noise-of-few : (xs : List Float) → length xs < 2 → +0 ≡ noise xs
 unfolding noise
 noise-of-few xs h = rw (lt-ltb (length xs) 2 h)
 
-pub noise-of-many : (xs : List Float) (m s : Float) → 2 ≤ length xs → m ≡ median (differences xs) → s ≡ max (spreadOf m) (floorOf (rangeOf xs)) → squared s ≡ noise xs
+pub noise-of-many : (xs : List Float) (m s : Float) → 2 ≤ length xs → m ≡ median (differences xs) → s ≡ larger (spreadOf m) (floorOf (rangeOf xs)) → squared s ≡ noise xs
 unfolding noise
 noise-of-many xs m s h e f = rw (le-ltb (length xs) 2 h, f, e)
 

@@ -7,7 +7,7 @@ use lib.Dec.{ltb, leb}
 use lib.ListN.{length, take, drop, replicate}
 use lib.Ieee.{Float, nan}
 use Rattle.floats.specs.Numbers.{_+ᶠ_, _-ᶠ_, _*ᶠ_, _/ᶠ_, +0, ratio}
-use Rattle.floats.specs.MaxMin.{max}
+use Rattle.floats.specs.MaxMin.{larger}
 use Rattle.readings.specs.Channels.{channelOf}
 use Rattle.extremes.specs.Extremes.{rangeOf}
 use Rattle.extremes.specs.declared.Range.{Range}
@@ -26,7 +26,7 @@ squared x = x *ᶠ x
 
 -- the median of the differences so divided, at least that floor, squared; +0 for fewer than 2 readings
 unfoldable pub noise : List Float → Float
-noise xs = cond (ltb (length xs) 2) +0 (squared (max (spreadOf (median (differences xs))) (floorOf (rangeOf xs))))
+noise xs = cond (ltb (length xs) 2) +0 (squared (larger (spreadOf (median (differences xs))) (floorOf (rangeOf xs))))
 
 -- the noise variances of channels 0 to c - 1 of a run, added in that order
 unfoldable pub noiseSumTo : List Float → ℕ → ℕ → Float

@@ -8,7 +8,7 @@ use areas::clear_floats;
 use extremes::range_of;
 use floats::max;
 use medians::median_difference;
-use readings::channel;
+use views::channel_of;
 
 // How many differences n readings have.
 fn steps(n: usize) -> usize
@@ -59,19 +59,19 @@ fn add_noise(run: &[f64], n: usize, channels: usize, area: &mut [f64], place: us
     let mut sum = 0.0;
     let mut k = 0;
     while k < channels {
-        sum = sum + noise_variance(channel(run, n, k), area, place);
+        sum = sum + noise_variance(channel_of(run, channels, n, k), area, place);
         k += 1;
     }
     sum
 }
 
-// The noise variances of channels 0 to channels - 1 of a run with so many readings each, added in that
-// order; all are worked out in the same run of the area.
-pub fn noise_sum(run: &[f64], length: usize, channels: usize, area: &mut [f64], place: usize) -> f64
-    ensures { λ r. ⌜ Lent (noiseSumTo (now (run .entry)) length channels) length place (now (area .entry)) (now (area .exit)) r ⌝ }
+// The noise variances of channels 0 to `channels - 1` of `run`, with `n` readings each, added in that
+// order; all are worked out in the same part of `area`, from `place` on.
+pub fn noise_sum(run: &[f64], n: usize, channels: usize, area: &mut [f64], place: usize) -> f64
+    ensures { λ r. ⌜ Lent (noiseSumTo (now (run .entry)) n channels) n place (now (area .entry)) (now (area .exit)) r ⌝ }
 {
-    if has_room(area.len(), length, place) {
-        return add_noise(run, length, channels, area, place);
+    if has_room(area.len(), n, place) {
+        return add_noise(run, n, channels, area, place);
     }
     0.0 / 0.0
 }

@@ -12,6 +12,7 @@ ghost use mathlib.Core.Path.{_≡_};
 ghost use mathlib.Core.Bool.{true, false};
 ghost use mathlib.Core.List.{[], _∷_};
 ghost use lib.ListN.{length};
+ghost use Rattle.searches.specs.Search.{takesFunctional};
 ghost use Rattle.pelt.specs.Detected.{newOf, withMinSegmentLen, Detected};
 
 // A search: how a segment is priced, the penalty of a change, and the least length of a piece. The
@@ -51,6 +52,18 @@ impl Pelt {
         }
     }
 
+    // Whether a search with these settings over `channels` channels takes the functional search, which
+    // asks for a pool of slots; any other search may be lent an empty one.
+    pub fn takes_functional(self, channels: usize) -> bool
+        ensures { λ r. ⌜ r ≡ takesFunctional (self .cost) channels ⌝ }
+    {
+        let cost = self.cost;
+        match cost {
+            CostFunction::L2 => channels <= Pelt::FUNCTIONAL_MAX_CHANNELS,
+            CostFunction::Normal => false,
+        }
+    }
+
     // The cuts of one channel, lowest first, in the front of `cuts`; the rest of it is left. A reading
     // that is not finite is searched with the others. Afterwards the work areas `floats`, `indices`
     // and `pool` are zero; a refusal other than 9 changes nothing. Room: n/2 cuts, 4(n + 1) floats,
@@ -66,20 +79,7 @@ impl Pelt {
         ensures { λ r. ⌜ Detected false self (now (readings .entry)) (length (now (readings .entry)) ∷ []) (now (cuts .entry)) (now (cuts .exit)) (now (floats .entry)) (now (floats .exit)) (now (indices .entry)) (now (indices .exit)) (now (pool .entry)) (now (pool .exit)) r ⌝ }
     {
         let lengths = [readings.len()];
-        let cost = self.cost;
-        let penalty = self.penalty;
-        find_cuts(
-            cost,
-            penalty,
-            self.min_segment_len,
-            false,
-            readings,
-            &lengths,
-            cuts,
-            floats,
-            indices,
-            pool,
-        )
+        self.detect_multi(readings, &lengths, cuts, floats, indices, pool)
     }
 
     // The same of one channel or more, which stand one after the other in `readings` and have these
@@ -98,11 +98,13 @@ impl Pelt {
     {
         let cost = self.cost;
         let penalty = self.penalty;
+        let m = self.min_segment_len;
+        let strict = false;
         find_cuts(
             cost,
             penalty,
-            self.min_segment_len,
-            false,
+            m,
+            strict,
             readings,
             lengths,
             cuts,
@@ -124,20 +126,7 @@ impl Pelt {
         ensures { λ r. ⌜ Detected true self (now (readings .entry)) (length (now (readings .entry)) ∷ []) (now (cuts .entry)) (now (cuts .exit)) (now (floats .entry)) (now (floats .exit)) (now (indices .entry)) (now (indices .exit)) (now (pool .entry)) (now (pool .exit)) r ⌝ }
     {
         let lengths = [readings.len()];
-        let cost = self.cost;
-        let penalty = self.penalty;
-        find_cuts(
-            cost,
-            penalty,
-            self.min_segment_len,
-            true,
-            readings,
-            &lengths,
-            cuts,
-            floats,
-            indices,
-            pool,
-        )
+        self.detect_multi_strict(readings, &lengths, cuts, floats, indices, pool)
     }
 
     // `detect_multi`, but a reading that is not finite is refused, with its place.
@@ -154,11 +143,13 @@ impl Pelt {
     {
         let cost = self.cost;
         let penalty = self.penalty;
+        let m = self.min_segment_len;
+        let strict = true;
         find_cuts(
             cost,
             penalty,
-            self.min_segment_len,
-            true,
+            m,
+            strict,
             readings,
             lengths,
             cuts,

@@ -2,7 +2,7 @@
 use mathlib.Core.Path.{_≡_, refl}
 use mathlib.Core.List.{List, [], _∷_}
 use lib.Ieee.{Float, add, sub, mul, div, ofInt}
-use Rattle.floats.specs.Numbers.{whole, ratio, +0}
+use Rattle.floats.specs.Numbers.{ofWhole, ratio, +0}
 use Rattle.refusals.specs.declared.Refusal.the-variants as Refusal
 use Rattle.sums.specs.Sums.{sumTo, meanOf, centred, centredTo, squaresTo}
 use Rattle.costs.specs.Costs.{segmentAbout, segmentOf, l2Cost}
@@ -10,20 +10,20 @@ use Rattle.piece.specs.declared.Summarised.the-variants as Summarised
 use Rattle.piece.specs.Piece.{summaryOf, summarisedAs}
 
 steps : List Float
-steps = whole 0 ∷ whole 0 ∷ whole 4 ∷ whole 4 ∷ []
+steps = ofWhole 0 ∷ ofWhole 0 ∷ ofWhole 4 ∷ ofWhole 4 ∷ []
 
 -- two readings of 4: mean 4, spread 0
-second-half : summarisedAs steps 2 4 ≡ Summarised.Piece (record { length = 2; mean = whole 4; spread = +0 })
+second-half : summarisedAs steps 2 4 ≡ Summarised.Piece (record { length = 2; mean = ofWhole 4; spread = +0 })
 unfolding summarisedAs summaryOf segmentOf segmentAbout l2Cost meanOf sumTo centred centredTo squaresTo steps add sub mul div ofInt
 second-half = refl
 
 -- all four: mean 2, spread 4
-whole-channel : summarisedAs steps 0 4 ≡ Summarised.Piece (record { length = 4; mean = whole 2; spread = whole 4 })
+whole-channel : summarisedAs steps 0 4 ≡ Summarised.Piece (record { length = 4; mean = ofWhole 2; spread = ofWhole 4 })
 unfolding summarisedAs summaryOf segmentOf segmentAbout l2Cost meanOf sumTo centred centredTo squaresTo steps add sub mul div ofInt
 whole-channel = refl
 
 -- 1 and 2 of 1 2 6: mean 1.5, spread 0.25
-first-two : summarisedAs (whole 1 ∷ whole 2 ∷ whole 6 ∷ []) 0 2 ≡ Summarised.Piece (record { length = 2; mean = ratio 3 2; spread = ratio 1 4 })
+first-two : summarisedAs (ofWhole 1 ∷ ofWhole 2 ∷ ofWhole 6 ∷ []) 0 2 ≡ Summarised.Piece (record { length = 2; mean = ratio 3 2; spread = ratio 1 4 })
 unfolding summarisedAs summaryOf segmentOf segmentAbout l2Cost meanOf sumTo centred centredTo squaresTo ratio add sub mul div ofInt
 first-two = refl
 

@@ -6,7 +6,7 @@ use mathlib.Core.List.{List, [], _∷_}
 use lib.Dec.{ltb, leb}
 use lib.ListN.{length}
 use lib.Ieee.{Float}
-use Rattle.floats.specs.Numbers.{_+ᶠ_, _-ᶠ_, _/ᶠ_, whole}
+use Rattle.floats.specs.Numbers.{_+ᶠ_, _-ᶠ_, _/ᶠ_, ofWhole}
 use Rattle.refusals.specs.Said.{tried}
 use Rattle.refusals.specs.declared.Refusal.the-variants as Refusal
 use Rattle.sums.specs.Sums.{meanOf}
@@ -17,7 +17,7 @@ use Rattle.piece.specs.declared.Summarised.{Summarised}
 use Rattle.piece.specs.declared.Summarised.the-variants as Summarised
 use Rattle.piece.specs.Piece.{runningAt, summaryOf, summarisedAs, summarised}
 
-pub segment-between : (xs : List Float) (mean : Float) (a b : ℕ) (x y : Running) (l : Float) → x ≡ runningAt xs mean a → y ≡ runningAt xs mean b → l ≡ whole (b - a)
+pub segment-between : (xs : List Float) (mean : Float) (a b : ℕ) (x y : Running) (l : Float) → x ≡ runningAt xs mean a → y ≡ runningAt xs mean b → l ≡ ofWhole (b - a)
     → record { length = l; sum = y .sum -ᶠ x .sum; «sum_of_squares» = y .«sum_of_squares» -ᶠ x .«sum_of_squares» } ≡ segmentAbout xs mean a b
 unfolding segmentAbout runningAt
 segment-between xs mean a b x y l e f g = rw (e, f, g)

@@ -10,6 +10,7 @@ ghost use Prim.Native.Nat.{_<_, _≤_};
 ghost use lib.ListN.{length};
 ghost use Rattle.piece.specs.Piece.{summaryOf, summarisedAs};
 use costs::l2_cost;
+use refusals::MAX_READINGS;
 use refusals::Refusal;
 use segment_of::segment_of;
 use sums::mean;
@@ -49,7 +50,7 @@ fn summarise(channel: &[f64], start: usize, end: usize) -> PieceSummary
 pub fn summary(channel: &[f64], start: usize, end: usize) -> Summarised
     ensures { λ r. ⌜ r ≡ summarisedAs (now (channel .entry)) start end ⌝ }
 {
-    if 4096 < channel.len() {
+    if MAX_READINGS < channel.len() {
         return Summarised::Refused(Refusal::TooLong);
     }
     if start < end {

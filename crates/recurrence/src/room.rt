@@ -2,13 +2,15 @@
 ghost use mathlib.Core.Path.{_≡_};
 ghost use Prim.Native.Nat.{_≤_};
 ghost use Rattle.recurrence.specs.Room.{seriesFits, roomFits, searchFits};
+use refusals::MAX_CHANNELS;
+use refusals::MAX_READINGS;
 
 // The limits are tested first, so that no product wraps.
 fn series_fits(run: usize, n: usize, channels: usize, m: usize) -> bool
     ensures { λ r. ⌜ r ≡ seriesFits run n channels m ⌝ }
 {
-    if channels <= 8 {
-        if n <= 4096 {
+    if channels <= MAX_CHANNELS {
+        if n <= MAX_READINGS {
             if channels * n <= run {
                 if 1 <= m {
                     return m <= n;

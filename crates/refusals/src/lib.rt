@@ -1,9 +1,17 @@
-// Every refusal of the library, and the number by which it is known outside.
+// Every refusal of the library, the number by which it is known outside, and the two limits that are
+// refused beyond.
 //
 // The numbers and their values are document 01's. They are written here and nowhere else: a caller
-// that prints or stores a refusal asks `number`.
+// that prints or stores a refusal asks `number`, and code that keeps a limit names it.
 ghost use mathlib.Core.Path.{_≡_};
 ghost use Rattle.refusals.specs.Stated.{stated};
+
+// The most channels that a run may have: more lengths are refusal 3.
+pub const MAX_CHANNELS: usize = 8;
+
+// The most readings that a channel or a series may have: more are refusal 6. A run length is looked
+// for among so many.
+pub const MAX_READINGS: usize = 4096;
 
 pub enum Refusal {
     // A custom penalty is not finite or not above 0.

@@ -5,10 +5,10 @@ use crate::penalties::match_penalties;
 use floats::to_bits;
 use noise::noise_sum;
 use noise::noise_variance;
-use readings::channel;
 use replay::Progress;
 use replay::next_number;
 use replay::number;
+use views::channel_of;
 
 // The kinds of what is compared here.
 const VARIANCE: usize = 2;
@@ -149,7 +149,7 @@ pub(crate) fn match_variances(
 {
     let mut k = 0;
     while k < channels {
-        progress = next_variance(progress, channel(run, n, k), k, room);
+        progress = next_variance(progress, channel_of(run, channels, n, k), k, room);
         k += 1;
     }
     progress

@@ -5,17 +5,17 @@ use mathlib.Core.Bool.{true}
 use mathlib.Core.List.{List, [], _∷_}
 use mathlib.Core.Option.{none, some}
 use lib.Ieee.{Float}
-use Rattle.floats.specs.Numbers.{+0, whole}
+use Rattle.floats.specs.Numbers.{+0, ofWhole}
 use Rattle.costs.specs.declared.CostFunction.the-variants.{L2}
 use Rattle.costs.specs.declared.Penalty.the-variants.{Bic, Custom}
 use Rattle.searches.specs.Search.{cutsFound}
 use Rattle.searches.specs.Left.{cutsLeft}
 
 abbrev five : List Float
-five = whole 0 ∷ whole 0 ∷ whole 4 ∷ whole 4 ∷ whole 4 ∷ []
+five = ofWhole 0 ∷ ofWhole 0 ∷ ofWhole 4 ∷ ofWhole 4 ∷ ofWhole 4 ∷ []
 
 -- five readings are fewer than twice three, so that there is nothing to lend slots for
-short-before-slots : cutsFound L2 (Custom (whole 1)) 3 five 5 1 0 ≡ some []
+short-before-slots : cutsFound L2 (Custom (ofWhole 1)) 3 five 5 1 0 ≡ some []
 unfolding cutsFound
 short-before-slots = refl
 

@@ -2,14 +2,14 @@
 use mathlib.Core.Bool.{Bool, _&&_, cond}
 use lib.Ieee.{Float}
 use Rattle.floats.specs.Numbers.{_+ᶠ_, _-ᶠ_, _*ᶠ_, _<ᶠ_, _≤ᶠ_}
-use Rattle.floats.specs.MaxMin.{max}
+use Rattle.floats.specs.MaxMin.{larger}
 use Rattle.floats.specs.Finite.{finite}
 use Rattle.elementary.specs.Root.{sqrt}
 use Rattle.spans.specs.declared.Span.{Span}
 
 -- the square of the distance from c to the farther end of a span
 unfoldable pub far2 : Span → Float → Float
-far2 s c = let low = s .lo -ᶠ c in let high = s .hi -ᶠ c in max (low *ᶠ low) (high *ᶠ high)
+far2 s c = let low = s .lo -ᶠ c in let high = s .hi -ᶠ c in larger (low *ᶠ low) (high *ᶠ high)
 
 -- v lies from c - w to c + w
 unfoldable pub inside : Float → Float → Float → Bool

@@ -8,7 +8,7 @@ use lib.Dec.{T, eqb}
 use lib.Ieee.{Float, nan, inf, fin, up, down, level, lt, le, eq, ne}
 use lib.Ieee.Compare.{differs-from-itself}
 use Rattle.floats.specs.Numbers.{_-ᶠ_, _<ᶠ_, +∞, -∞}
-use Rattle.floats.specs.MaxMin.{max, min}
+use Rattle.floats.specs.MaxMin.{larger, smaller}
 use Rattle.floats.proofs.Order.Laws.{lt-not-le}
 use Rattle.candidate.specs.declared.Candidate.{Candidate}
 use Rattle.candidate.specs.declared.Ball.{Ball}
@@ -77,12 +77,12 @@ unchanged x y false f e = side (ne x x) refl e
     side false q g = refl
     side true q g = let n : x ≡ nan = differs-from-itself x (subst T (sym q) tt) in absurd (false≢true (sym (eq-nan y) ∙ subst (λ (z : Float). eq y z ≡ true) n g))
 
-max-stays : (x y : Float) → eq (max x y) x ≡ true → max x y ≡ x
-unfolding max
+max-stays : (x y : Float) → eq (larger x y) x ≡ true → larger x y ≡ x
+unfolding larger
 max-stays x y e = unchanged x y (x <ᶠ y) (λ l g. eq-not-below x y l g) e
 
-min-stays : (x y : Float) → eq (min x y) x ≡ true → min x y ≡ x
-unfolding min
+min-stays : (x y : Float) → eq (smaller x y) x ≡ true → smaller x y ≡ x
+unfolding smaller
 min-stays x y e = unchanged x y (y <ᶠ x) (λ l g. eq-not-below y x l (eq-turned y x g)) e
 
 -- ---- a side

@@ -6,7 +6,7 @@ use mathlib.Core.List.{List}
 use lib.Dec.{leb}
 use lib.ListN.{length, getD}
 use lib.Ieee.{Float, nan}
-use Rattle.floats.specs.Numbers.{_+ᶠ_, _-ᶠ_, _*ᶠ_, _/ᶠ_, +0, whole}
+use Rattle.floats.specs.Numbers.{_+ᶠ_, _-ᶠ_, _*ᶠ_, _/ᶠ_, +0, ofWhole}
 use Rattle.readings.specs.Parts.{part, tab, Frame}
 
 -- the sum of the first i readings, from index 0 up
@@ -16,7 +16,7 @@ sumTo xs (suc i) = sumTo xs i +ᶠ getD xs i nan
 
 -- the sum of all over their number
 unfoldable pub meanOf : List Float → Float
-meanOf xs = sumTo xs (length xs) /ᶠ whole (length xs)
+meanOf xs = sumTo xs (length xs) /ᶠ ofWhole (length xs)
 
 -- reading i less the mean
 unfoldable pub centred : List Float → Float → ℕ → Float

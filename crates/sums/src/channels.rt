@@ -7,15 +7,17 @@ ghost use Rattle.sums.specs.Sums.{meanOf, Summed};
 ghost use Rattle.sums.specs.EachChannel.{sumsFit, Sums, RanEach};
 use crate::running::run_on;
 use crate::total::mean;
-use readings::channel;
+use refusals::MAX_CHANNELS;
+use refusals::MAX_READINGS;
+use views::channel_of;
 
 // Whether a run of so many readings has the channels, and an area of so many places room for their
 // sums. The limits are tested first, so that no product wraps.
 fn sums_fit(run: usize, n: usize, channels: usize, size: usize) -> bool
     ensures { λ r. ⌜ r ≡ sumsFit run n channels size ⌝ }
 {
-    if channels <= 8 {
-        if n <= 4096 {
+    if channels <= MAX_CHANNELS {
+        if n <= MAX_READINGS {
             if channels * n <= run {
                 return channels * (2 * (n + 1)) <= size;
             }
@@ -41,7 +43,7 @@ fn one_after_the_other(run: &[f64], n: usize, channels: usize, area: &mut [f64])
     let mut c = 0;
     let mut place = 0;
     while c < channels {
-        about_its_mean(channel(run, n, c), area, place);
+        about_its_mean(channel_of(run, channels, n, c), area, place);
         place += 2 * (n + 1);
         c += 1;
     }

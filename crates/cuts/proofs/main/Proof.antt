@@ -6,11 +6,11 @@ use Rattle.fields.proofs.AnswerLaws.{answer-inside}
 use Rattle.cuts.proofs.main.Statement.{statement}
 use Rattle.cuts.proofs.main.Tie as tie
 
-slice-aggregate-read-full : tie.Need-slice-aggregate-read-full
-slice-aggregate-read-full c = search needs
+slice-aggregate-read-input : tie.Need-slice-aggregate-read-input
+slice-aggregate-read-input c = search needs
 
-read-full-requires : tie.Need-read-full-requires
-read-full-requires c κs = tt
+read-input-requires : tie.Need-read-input-requires
+read-input-requires c κs = tt
 
 array-share-prefix-input : tie.Need-array-share-prefix-input
 array-share-prefix-input c = search needs
@@ -30,19 +30,31 @@ slice-aggregate-write-all c = sym (length-take-le _ _ (answer-inside (c .before 
 write-all-requires : tie.Need-write-all-requires
 write-all-requires c κs = tt
 
+slice-aggregate-write-all-2 : tie.Need-slice-aggregate-write-all-2
+slice-aggregate-write-all-2 c = search needs
+
+write-all-requires-2 : tie.Need-write-all-requires-2
+write-all-requires-2 c κs = tt
+
 returns : tie.Need-returns
 returns c = tt
+
+returns-2 : tie.Need-returns-2
+returns-2 c = tt
 
 pub main-spec : {M : Type 1} → statement M
 main-spec =
     tie.close
     (tie.spec
-    slice-aggregate-read-full
-    read-full-requires
+    slice-aggregate-read-input
+    read-input-requires
     array-share-prefix-input
     slice-aggregate-answer
     answer-requires
     array-share-prefix-bytes
     slice-aggregate-write-all
     write-all-requires
-    returns)
+    slice-aggregate-write-all-2
+    write-all-requires-2
+    returns
+    returns-2)

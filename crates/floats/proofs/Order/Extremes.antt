@@ -4,7 +4,7 @@ use mathlib.Core.Bool.{Bool, true, false, cond}
 use lib.Dec.{T}
 use lib.Ieee.{Float, nan, inf, fin, lt, ne}
 use lib.Ieee.Compare.{differs-from-itself}
-use Rattle.floats.specs.MaxMin.{max, min}
+use Rattle.floats.specs.MaxMin.{larger, smaller}
 use Rattle.floats.proofs.Order.Laws.{number}
 
 -- ---- both are one choice, by whether the second is beyond the first
@@ -42,35 +42,35 @@ unfolding lt
 nan-not-above x = refl
 
 -- ---- max
-pub max-first-nan : (y : Float) → max nan y ≡ y
-unfolding max
+pub max-first-nan : (y : Float) → larger nan y ≡ y
+unfolding larger
 max-first-nan y = choice-first-nan (lt nan y) y
 
-pub max-second-nan : (x : Float) → max x nan ≡ x
-unfolding max
+pub max-second-nan : (x : Float) → larger x nan ≡ x
+unfolding larger
 max-second-nan x = rw (nan-not-below x) (choice-second-nan x)
 
-pub max-second : (x y : Float) → lt x y ≡ true → max x y ≡ y
-unfolding max
+pub max-second : (x y : Float) → lt x y ≡ true → larger x y ≡ y
+unfolding larger
 max-second x y h = rw h
 
-pub max-first : (x y : Float) → T (number x) → lt x y ≡ false → max x y ≡ x
-unfolding max
+pub max-first : (x y : Float) → T (number x) → lt x y ≡ false → larger x y ≡ x
+unfolding larger
 max-first x y t h = rw h (choice-first x y t)
 
 -- ---- min
-pub min-first-nan : (y : Float) → min nan y ≡ y
-unfolding min
+pub min-first-nan : (y : Float) → smaller nan y ≡ y
+unfolding smaller
 min-first-nan y = choice-first-nan (lt y nan) y
 
-pub min-second-nan : (x : Float) → min x nan ≡ x
-unfolding min
+pub min-second-nan : (x : Float) → smaller x nan ≡ x
+unfolding smaller
 min-second-nan x = rw (nan-not-above x) (choice-second-nan x)
 
-pub min-second : (x y : Float) → lt y x ≡ true → min x y ≡ y
-unfolding min
+pub min-second : (x y : Float) → lt y x ≡ true → smaller x y ≡ y
+unfolding smaller
 min-second x y h = rw h
 
-pub min-first : (x y : Float) → T (number x) → lt y x ≡ false → min x y ≡ x
-unfolding min
+pub min-first : (x y : Float) → T (number x) → lt y x ≡ false → smaller x y ≡ x
+unfolding smaller
 min-first x y t h = rw h (choice-first x y t)

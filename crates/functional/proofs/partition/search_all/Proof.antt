@@ -25,7 +25,7 @@ mul-t15 c =
     omega (arith, sums-small (a .n) (a .channels) (s .few) (s .short))
 
 range-box-requires : tie.Need-range-box-requires
-range-box-requires c κs = tt
+range-box-requires c κs = c .before .before .before .before .before .pre .0
 
 begin-requires : tie.Need-begin-requires
 begin-requires c κs =

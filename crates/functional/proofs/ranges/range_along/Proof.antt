@@ -8,9 +8,11 @@ use Rattle.sums.specs.Sums.{meanOf}
 use Rattle.extremes.specs.Extremes.{rangeOf, about}
 use mathlib.Core.Path.{ap₂}
 use Rattle.extremes.specs.declared.Range.{Range}
+use denote.Ref.{now}
+use Rattle.views.proofs.ViewLaws.{viewed-below}
 
-channel-requires : tie.Need-channel-requires
-channel-requires c κs = search needs
+channel-of-requires : tie.Need-channel-of-requires
+channel-of-requires c κs = search needs
 
 range-of-requires : tie.Need-range-of-requires
 range-of-requires c κs = search needs
@@ -22,9 +24,13 @@ range-about-requires : tie.Need-range-about-requires
 range-about-requires c κs = search needs
 
 returns : tie.Need-returns
-returns c = c .range-about .ensures ∙ ap₂ (λ (r : Range) (m : Float). about r m) (c .before .before .range-of .ensures ∙ ap rangeOf (c .before .before .before .channel .ensures)) (c .before .mean .ensures ∙ ap meanOf (c .before .before .before .channel .ensures))
+returns c =
+    let start = c .before .before .before .before .before in
+    let a = start .args in
+    let given = c .before .before .before .channel-of .ensures ∙ viewed-below (now (a .run)) (a .channels) (a .n) (a .k) (start .pre) in
+    c .range-about .ensures ∙ ap₂ (λ (r : Range) (m : Float). about r m) (c .before .before .range-of .ensures ∙ ap rangeOf given) (c .before .mean .ensures ∙ ap meanOf given)
 
 pub range-along-spec : {M : Type 1} → statement M
 range-along-spec =
     tie.close
-    (tie.spec channel-requires range-of-requires mean-requires range-about-requires returns)
+    (tie.spec channel-of-requires range-of-requires mean-requires range-about-requires returns)

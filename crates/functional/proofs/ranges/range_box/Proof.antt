@@ -1,5 +1,5 @@
 use Prim.Native.Nat.{_-_}
-use borrow.Author.Needs.{needs}
+use native.Mathlib.Omega.{arith}
 use Rattle.functional.proofs.ranges.range_box.Statement.{statement}
 use Rattle.functional.proofs.ranges.range_box.Tie as tie
 use lib.Ieee.{ofBits}
@@ -7,14 +7,14 @@ use Rattle.dominance.specs.Functional.{rangeAlong}
 use Rattle.functional.proofs.PartitionLaws.{range-one, range-two}
 
 range-along-requires : tie.Need-range-along-requires
-range-along-requires c κs = search needs
+range-along-requires c κs = c .before .pre
 
 returns : tie.Need-returns
 unfolding ofBits rangeAlong
 returns c = range-one _ _ (c .if1 .taken) (c .before .range-along .ensures)
 
 range-along-requires-2 : tie.Need-range-along-requires-2
-range-along-requires-2 c κs = search needs
+range-along-requires-2 c κs = omega (arith, c .before .before .before .pre, c .if1 .left)
 
 returns-2 : tie.Need-returns-2
 unfolding rangeAlong

@@ -8,7 +8,7 @@ use Rattle.inequality.proofs.normal.add_block.Tie as tie
 use mathlib.Core.Path.{subst}
 use denote.Ref.{now}
 use Rattle.readings.specs.Parts.{part}
-use Rattle.inequality.specs.Held.{Below}
+use Rattle.inequality.specs.Held.{AllBelow}
 use Rattle.inequality.proofs.WeightLaws.{block-added}
 
 vary-requires : tie.Need-vary-requires
@@ -18,7 +18,7 @@ ln-each-requires : tie.Need-ln-each-requires
 ln-each-requires c κs = search needs
 
 put-requires : tie.Need-put-requires
-put-requires c κs = let a = c .before .before .before .before .before .before .before .before .before .before .before .before .before .before .args in let p = c .before .before .before .before .before .before .before .before .before .before .before .before .before .before .pre in let long : length (c .before .before .before .before .ln-each .last .0) ≡ length (now (a .values)) = c .before .before .before .before .ln-each .kept .0 ∙ c .before .before .before .before .before .before .before .before .vary .kept .1 .1 .1 .1 .1 .1 .0 in (omega arith, omega arith, omega arith, subst (λ (n : ℕ). Below (a .t) (part (now (a .indices)) (a .plan .c) (a .first + n))) (sym long) (p .4))
+put-requires c κs = let a = c .before .before .before .before .before .before .before .before .before .before .before .before .before .before .args in let p = c .before .before .before .before .before .before .before .before .before .before .before .before .before .before .pre in let long : length (c .before .before .before .before .ln-each .last .0) ≡ length (now (a .values)) = c .before .before .before .before .ln-each .kept .0 ∙ c .before .before .before .before .before .before .before .before .vary .kept .1 .1 .1 .1 .1 .1 .0 in (omega arith, omega arith, omega arith, subst (λ (n : ℕ). AllBelow (a .t) (part (now (a .indices)) (a .plan .c) (a .first + n))) (sym long) (p .4))
 
 same-length : tie.Need-same-length
 same-length c = search needs

@@ -12,18 +12,18 @@ use mathlib.Core.Bool.{true}
 use Rattle.medians.proofs.MedianLaws.{front-more}
 use Rattle.medians.proofs.KeptLaws.{kept-length, gathered-in, gathered-out}
 use Rattle.medians.proofs.CountLaws.{counted-in, counted-out, counted-all, count-front}
-use Rattle.medians.specs.Ranks.{count, between, kept}
+use Rattle.medians.specs.Ranks.{count, inBracket, passing}
 use Rattle.medians.proofs.rank.gather.Statement.{statement}
 use Rattle.medians.proofs.rank.gather.Tie as tie
 
 abbrev Inv-loop : tie.InvT-loop
-Inv-loop run low high part₀ size₀ i₀ part size i = (i ≤ length run) × (length part ≡ length part₀) × (size ≡ count (between low high) (take i run)) × (take size part ≡ kept (between low high) (take i run))
+Inv-loop run low high part₀ size₀ i₀ part size i = (i ≤ length run) × (length part ≡ length part₀) × (size ≡ count (inBracket low high) (take i run)) × (take size part ≡ passing (inBracket low high) (take i run))
 
 abbrev μ-loop : tie.MeasureT-loop
 μ-loop run low high part₀ size₀ i₀ part size i = length run - i
 
 -- the value that is kept passes the test
-passes : (c : tie.Then1 Inv-loop μ-loop) → between (c .before .before .before .before .before .before .before .args .low) (c .before .before .before .before .before .before .before .args .high) (getD (now (c .before .before .before .before .before .before .before .args .run)) (c .before .before .before .before .loop .i) nan) ≡ true
+passes : (c : tie.Then1 Inv-loop μ-loop) → inBracket (c .before .before .before .before .before .before .before .args .low) (c .before .before .before .before .before .before .before .args .high) (getD (now (c .before .before .before .before .before .before .before .args .run)) (c .before .before .before .before .loop .i) nan) ≡ true
 passes c = sym (c .before .is-between .ensures) ∙ c .if1 .taken
 
 -- there is room for one more than are kept
@@ -31,10 +31,10 @@ room : (c : tie.After-shared-slice-known2 Inv-loop μ-loop) → c .before .befor
 room c =
     let l = c .before .before .loop in
     let start = c .before .before .before .before .before in
-    omega (arith, l .inv .1, l .inv .2, start .pre, count-front (between (start .args .low) (start .args .high)) (now (start .args .run)) (l .i))
+    omega (arith, l .inv .1, l .inv .2, start .pre, count-front (inBracket (start .args .low) (start .args .high)) (now (start .args .run)) (l .i))
 
 loop-holds : tie.Need-loop-holds Inv-loop μ-loop
-unfolding count kept
+unfolding count passing
 loop-holds c = (omega arith, refl, refl, refl)
 
 mul-value : tie.Need-mul-value Inv-loop μ-loop
@@ -67,8 +67,8 @@ loop-again c =
     let run = now (c .before .before .before .before .before .before .before .args .run) in (
       omega arith,
       simp length-set (l .inv .1),
-      counted-in (between (c .before .before .before .before .before .before .before .args .low) (c .before .before .before .before .before .before .before .args .high)) run (l .i) (l .size) (l .inv .2) (c .before .before .before .loop-test .taken) (passes c),
-      front-more (l .part) (l .size) (getD run (l .i) nan) _ (room (c .before .before)) (l .inv .3) ∙ sym (gathered-in (between (c .before .before .before .before .before .before .before .args .low) (c .before .before .before .before .before .before .before .args .high)) run (l .i) (c .before .before .before .loop-test .taken) (passes c)),
+      counted-in (inBracket (c .before .before .before .before .before .before .before .args .low) (c .before .before .before .before .before .before .before .args .high)) run (l .i) (l .size) (l .inv .2) (c .before .before .before .loop-test .taken) (passes c),
+      front-more (l .part) (l .size) (getD run (l .i) nan) _ (room (c .before .before)) (l .inv .3) ∙ sym (gathered-in (inBracket (c .before .before .before .before .before .before .before .args .low) (c .before .before .before .before .before .before .before .args .high)) run (l .i) (c .before .before .before .loop-test .taken) (passes c)),
     )
 
 loop-less-2 : tie.Need-loop-less-2 Inv-loop μ-loop
@@ -81,8 +81,8 @@ loop-again-2 c =
     let fails = sym (c .before .is-between .ensures) ∙ c .if1 .left in (
       omega arith,
       simp length-set (l .inv .1),
-      counted-out (between (c .before .before .before .before .before .before .before .args .low) (c .before .before .before .before .before .before .before .args .high)) run (l .i) (l .size) (l .inv .2) (c .before .before .before .loop-test .taken) fails,
-      take-set-le (l .size) (l .part) (l .size) (getD run (l .i) nan) (le-refl (l .size)) ∙ l .inv .3 ∙ sym (gathered-out (between (c .before .before .before .before .before .before .before .args .low) (c .before .before .before .before .before .before .before .args .high)) run (l .i) (c .before .before .before .loop-test .taken) fails),
+      counted-out (inBracket (c .before .before .before .before .before .before .before .args .low) (c .before .before .before .before .before .before .before .args .high)) run (l .i) (l .size) (l .inv .2) (c .before .before .before .loop-test .taken) fails,
+      take-set-le (l .size) (l .part) (l .size) (getD run (l .i) nan) (le-refl (l .size)) ∙ l .inv .3 ∙ sym (gathered-out (inBracket (c .before .before .before .before .before .before .before .args .low) (c .before .before .before .before .before .before .before .args .high)) run (l .i) (c .before .before .before .loop-test .taken) fails),
     )
 
 same-length : tie.Need-same-length Inv-loop μ-loop
@@ -93,8 +93,8 @@ returns c =
     let l = c .before .loop in
     let run = now (c .before .before .before .before .args .run) in
     let e : l .i ≡ length run = le-antisymm (l .inv .0) (c .loop-test .left) in (
-      counted-all (between (c .before .before .before .before .args .low) (c .before .before .before .before .args .high)) run (l .i) (l .size) (l .inv .2) e ∙ sym (kept-length (between (c .before .before .before .before .args .low) (c .before .before .before .before .args .high)) run),
-      l .inv .3 ∙ ap (kept (between (c .before .before .before .before .args .low) (c .before .before .before .before .args .high))) (ap (λ (n : ℕ). take n run) e ∙ take-length run),
+      counted-all (inBracket (c .before .before .before .before .args .low) (c .before .before .before .before .args .high)) run (l .i) (l .size) (l .inv .2) e ∙ sym (kept-length (inBracket (c .before .before .before .before .args .low) (c .before .before .before .before .args .high)) run),
+      l .inv .3 ∙ ap (passing (inBracket (c .before .before .before .before .args .low) (c .before .before .before .before .args .high))) (ap (λ (n : ℕ). take n run) e ∙ take-length run),
     )
 
 pub gather-spec : {M : Type 1} → statement M

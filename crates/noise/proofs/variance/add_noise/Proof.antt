@@ -7,6 +7,7 @@ use lib.Ieee.{ofBits}
 use borrow.Author.Needs.{needs}
 use Rattle.noise.proofs.variance.add_noise.Statement.{statement}
 use denote.Ref.{now}
+use Rattle.views.proofs.ViewLaws.{viewed-below}
 use Rattle.noise.specs.Noise.{noiseSumTo, cleared}
 use Rattle.noise.proofs.NoiseLaws.{has-room, place-cleared, channel-lent, sum-more, cleared-length}
 use Rattle.noise.proofs.variance.add_noise.Tie as tie
@@ -32,8 +33,8 @@ loop-holds : tie.Need-loop-holds Inv-loop μ-loop
 unfolding noiseSumTo ofBits
 loop-holds c = (search needs, refl, refl)
 
-channel-requires : tie.Need-channel-requires Inv-loop μ-loop
-channel-requires c κs = search needs
+channel-of-requires : tie.Need-channel-of-requires Inv-loop μ-loop
+channel-of-requires c κs = search needs
 
 noise-variance-requires : tie.Need-noise-variance-requires Inv-loop μ-loop
 noise-variance-requires c κs = search needs
@@ -47,9 +48,11 @@ loop-less c = search needs
 loop-again : tie.Need-loop-again Inv-loop μ-loop
 loop-again c =
     let loop = c .before .before .before .before .before .before .loop in
+    let a = c .before .before .before .before .before .before .before .before .before .before .before .before .before .before .args in
+    let given = c .before .before .before .before .channel-of .ensures ∙ viewed-below (now (a .run)) (a .channels) (a .n) (loop .k) (c .before .before .before .before .before .loop-test .taken) in
     let l =
-    channel-lent _ _ _ _ _ _ _ _ _ _ (c .before .before .before .before .before .before .before .before .before .before .before .before .before .before .pre) (emptied (c .before .before .before .before .before .before .before)) (loop .inv .2) (c .before .before .before .before .channel .ensures) (c .before .before .noise-variance .ensures) in
-    (search needs, sum-more _ _ _ _ _ _ (loop .inv .1) (c .before .before .before .before .channel .ensures) (l .0), l .1)
+    channel-lent _ _ _ _ _ _ _ _ _ _ (c .before .before .before .before .before .before .before .before .before .before .before .before .before .before .pre) (emptied (c .before .before .before .before .before .before .before)) (loop .inv .2) given (c .before .before .noise-variance .ensures) in
+    (search needs, sum-more _ _ _ _ _ _ (loop .inv .1) given (l .0), l .1)
 
 same-length : tie.Need-same-length Inv-loop μ-loop
 same-length c = ap length (c .before .loop .inv .2 ∙ emptied (c .before .before)) ∙ cleared-length _ _ _ (has-room _ _ _ (c .before .before .before .before .before .before .before .before .before .pre))
@@ -70,7 +73,7 @@ add-noise-spec =
     steps-requires
     clear-floats-requires
     loop-holds
-    channel-requires
+    channel-of-requires
     noise-variance-requires
     add-k
     loop-less

@@ -8,7 +8,7 @@ use borrow.Author.Needs.{needs}
 use Rattle.noise.proofs.variance.noise_variance.Statement.{statement}
 use denote.Ref.{now}
 use Rattle.floats.specs.Numbers.{ratio}
-use Rattle.floats.specs.MaxMin.{max}
+use Rattle.floats.specs.MaxMin.{larger}
 use Rattle.floats.proofs.Order.Zero.{zero-by-zero}
 use Rattle.extremes.specs.declared.Range.{Range}
 use Rattle.noise.specs.Noise.{spreadOf, floorOf, hasRoom}
@@ -66,7 +66,7 @@ returns-2 c =
     let room = has-room _ _ _ (there (c .before .before .before .before .before .before .before .before)) in
     let many = c .before .before .before .before .before .before .before .if2 .left in
     let found = part-median _ _ _ (a .place) _ room many e (m .ensures) in
-    let f = c .max .ensures ∙ ap (λ (r : Range). max (spreadOf (m .result)) (floorOf r)) (c .before .before .range-of .ensures) in
+    let f = c .max .ensures ∙ ap (λ (r : Range). larger (spreadOf (m .result)) (floorOf r)) (c .before .before .range-of .ensures) in
     lent-found (there (c .before .before .before .before .before .before .before .before)) (noise-of-many _ _ _ many (found .0) f) (part-cleared _ _ _ _ _ room e (found .1))
 
 returns-3 : tie.Need-returns-3

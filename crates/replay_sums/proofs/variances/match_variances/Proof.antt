@@ -13,8 +13,8 @@ abbrev μ-loop : tie.MeasureT-loop
 loop-holds : tie.Need-loop-holds Inv-loop μ-loop
 loop-holds c = search needs
 
-channel-requires : tie.Need-channel-requires Inv-loop μ-loop
-channel-requires c κs = search needs
+channel-of-requires : tie.Need-channel-of-requires Inv-loop μ-loop
+channel-of-requires c κs = search needs
 
 next-variance-requires : tie.Need-next-variance-requires Inv-loop μ-loop
 next-variance-requires c κs = search needs
@@ -38,7 +38,7 @@ match-variances-spec =
     Inv-loop
     μ-loop
     loop-holds
-    channel-requires
+    channel-of-requires
     next-variance-requires
     add-k
     loop-less

@@ -12,6 +12,7 @@ use Rattle.sums.specs.EachChannel.{Sums}
 use Rattle.sums.proofs.ChannelLaws.{mul-more, mul-room, channel-long, sums-none, sums-more}
 use native.Mathlib.Nat.{zero-mul}
 use denote.Ref.{now}
+use Rattle.views.proofs.ViewLaws.{viewed-below}
 use mathlib.Core.Path.{subst}
 
 abbrev Inv-loop : tie.InvT-loop
@@ -23,15 +24,15 @@ abbrev μ-loop : tie.MeasureT-loop
 loop-holds : tie.Need-loop-holds Inv-loop μ-loop
 loop-holds c = (omega arith, sym (zero-mul _), refl, sums-none _ _ _, frame-refl _ _ _)
 
-channel-requires : tie.Need-channel-requires Inv-loop μ-loop
-channel-requires c κs = search needs
+channel-of-requires : tie.Need-channel-of-requires Inv-loop μ-loop
+channel-of-requires c κs = search needs
 
 about-its-mean-requires : tie.Need-about-its-mean-requires Inv-loop μ-loop
 about-its-mean-requires c κs =
     let a = c .before .before .before .before .before .before .args in
     let p = c .before .before .before .before .before .before .pre in
     let l = c .before .before .before .loop in
-    let h : l .c < a .channels = c .before .before .loop-test .taken in rw (c .before .channel .ensures, channel-long (now (a .run)) (a .n) (a .channels) (l .c) (p .0) (p .1) (p .2) h) (omega (arith, mul-room (l .c) (a .channels) (2 * (a .n + 1)) h, l .inv .2, p .3, l .inv .1))
+    let h : l .c < a .channels = c .before .before .loop-test .taken in rw (c .before .channel-of .ensures ∙ viewed-below (now (a .run)) (a .channels) (a .n) (l .c) h, channel-long (now (a .run)) (a .n) (a .channels) (l .c) (p .0) (p .1) (p .2) h) (omega (arith, mul-room (l .c) (a .channels) (2 * (a .n + 1)) h, l .inv .2, p .3, l .inv .1))
 
 add-place : tie.Need-add-place Inv-loop μ-loop
 add-place c = search needs
@@ -57,7 +58,7 @@ loop-again c =
     let p = c .before .before .before .before .before .before .before .before .before .pre in
     let l = c .before .before .before .before .before .before .loop in
     let h : l .c < a .channels = c .before .before .before .before .before .loop-test .taken in
-    let q = c .before .before .before .before .channel .ensures in
+    let q = c .before .before .before .before .channel-of .ensures ∙ viewed-below (now (a .run)) (a .channels) (a .n) (l .c) h in
     let long = ap length q ∙ channel-long (now (a .run)) (a .n) (a .channels) (l .c) (p .0) (p .1) (p .2) h in
     let r = c .before .before .about-its-mean .ensures in
     (omega arith, omega (arith, l .inv .1, mul-more (l .c) (2 * (a .n + 1))), r .frame .long ∙ l .inv .2, sums-more r q long (l .inv .1) (l .inv .3), frame-trans (l .inv .4) (frame-wide _ _ (r .frame) (omega arith) (omega (arith, long, l .inv .1, mul-room (l .c) (a .channels) (2 * (a .n + 1)) h))))
@@ -79,7 +80,7 @@ one-after-the-other-spec =
     Inv-loop
     μ-loop
     loop-holds
-    channel-requires
+    channel-of-requires
     about-its-mean-requires
     add-place
     mul-place
