@@ -4,3 +4,4 @@ pub mod Hearing
 pub mod Sums
 pub mod RunLength
 pub mod Promise
+pub mod SumSigns

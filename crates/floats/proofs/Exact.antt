@@ -154,3 +154,8 @@ zero-plus (inf s) f h = unfold add in refl
 zero-plus (fin s (suc m) e) f h = zero-plus-some false s m e f
 zero-plus (fin true zero e) f h = absurd (h (only-zero true e f))
 zero-plus (fin false zero e) f h = rw (only-zero false e f) (unfold add in refl)
+
+-- added to either zero
+pub either-zero-plus : (z : Bool) (y : Float) → T (fits binary64 y) → (y ≡ negativeZero → ⊥) → fin z 0 (pos 0) +ᶠ y ≡ y
+either-zero-plus true y f h = minus-zero-plus y f
+either-zero-plus false y f h = zero-plus y f h

@@ -1,4 +1,4 @@
--- A sum is -0 only where both its values are: so one that starts at +0 never becomes -0. Nor is a square. Assumes nothing.
+-- A sum is -0 only where both its values are: so one that starts at +0 never becomes -0. No square is -0. Assumes nothing.
 use mathlib.Core.Path.{_≡_, refl, sym, ap, _∙_}
 use Prim.Native.Nat.{ℕ, zero, suc, _+_, _-_, _*_, _^_, _≤_, _<_}
 use native.Mathlib.Nat.{mul-assoc, mul-comm, mul-right-comm, mul-pos, mul-le-mul-right, mul-lt-mul-of-pos-right, lt-of-mul-lt-mul-right, zero-lt-suc}
@@ -6,15 +6,16 @@ use native.Mathlib.Omega.{arith}
 use mathlib.Core.Bool.{Bool, true, false, cond, true≢false}
 use borrow.Author.Tests.{ltb-true}
 use lib.Dec.{T, ltb}
-use lib.IntN.{ℤ, negsuc}
+use lib.IntN.{ℤ, pos, negsuc}
 use lib.Pow.{pow-pos}
-use lib.Ieee.{Float, nan, inf, fin, binary64, low, up, down, round, neg, sum, add, sub, mul, le, fits}
+use lib.Ieee.{Float, nan, inf, fin, binary64, low, up, down, round, neg, sum, add, sub, mul, le, ne, fits}
 use lib.Ieee.Exact.{HasValue}
-use lib.Ieee.Fits.{up-pos, down-pos, neg-fits}
+use lib.Ieee.Fits.{up-pos, down-pos, neg-fits, add-fits, mul-fits}
 use lib.Ieee.Scale.{finite, grid, round-val, round-under}
-use Rattle.floats.specs.Numbers.{_+ᶠ_, _-ᶠ_, _*ᶠ_}
+use Rattle.floats.specs.Numbers.{_+ᶠ_, _-ᶠ_, _*ᶠ_, _<ᶠ_, +0}
+use Rattle.floats.specs.MaxMin.{max}
 use Rattle.floats.specs.MinusZero.{negativeZero}
-use Rattle.floats.proofs.Exact.{counted, only-zero}
+use Rattle.floats.proofs.Exact.{counted, only-zero, minus-zero-plus, either-zero-plus}
 use Rattle.floats.proofs.Order.Fractions.{Leq, le→leq}
 use Rattle.floats.proofs.Order.Rounding.{round-le}
 
@@ -28,16 +29,9 @@ minus-zero (fin s (suc m) e) = false
 pub no-minus-zero : (z : Float) → minus-zero z ≡ false → z ≡ negativeZero → ⊥
 no-minus-zero z h e = true≢false (rw e at h)
 
-pub other-than : (z : Float) → T (fits binary64 z) → (z ≡ negativeZero → ⊥) → minus-zero z ≡ false
-other-than nan f h = refl
-other-than (inf s) f h = refl
-other-than (fin true zero e) f h = absurd (h (only-zero true e f))
-other-than (fin false zero e) f h = refl
-other-than (fin s (suc m) e) f h = refl
-
 -- ---- what is rounded
 -- without a sign
-pub plain-round : (a c : ℕ) → minus-zero (round binary64 false a c) ≡ false
+plain-round : (a c : ℕ) → minus-zero (round binary64 false a c) ≡ false
 plain-round a c = go (round binary64 false a c) (λ t. round-val binary64 a c (round-under binary64 a c t))
   where
     go : (z : Float) → (T (finite z) → HasValue z false (grid binary64 a c) (2 ^ low binary64)) → minus-zero z ≡ false
@@ -142,7 +136,7 @@ fin-sum true (suc m) e false n d f g h = go (ltb a b) (ltb b a) (ltb-true b a)
     go false true l = less-second true (suc m) e false n d f g (l refl)
     go false false l = plain-round (a - b) (down e * down d)
 
-add-plain : (x y : Float) → T (fits binary64 x) → T (fits binary64 y) → minus-zero x ≡ false → minus-zero (x +ᶠ y) ≡ false
+pub add-plain : (x y : Float) → T (fits binary64 x) → T (fits binary64 y) → minus-zero x ≡ false → minus-zero (x +ᶠ y) ≡ false
 add-plain nan y f g h = unfold add in refl
 add-plain (inf s) nan f g h = unfold add in refl
 add-plain (inf true) (inf true) f g h = unfold add in refl
@@ -154,18 +148,52 @@ add-plain (fin s m e) nan f g h = unfold add in refl
 add-plain (fin s m e) (inf t) f g h = unfold add in refl
 add-plain (fin s m e) (fin t n d) f g h = fin-sum s m e t n d f g h
 
--- ---- the laws
-pub add-no-minus-zero : (x y : Float) → T (fits binary64 x) → T (fits binary64 y) → (x ≡ negativeZero → ⊥) → x +ᶠ y ≡ negativeZero → ⊥
-add-no-minus-zero x y f g h = no-minus-zero (x +ᶠ y) (add-plain x y f g (other-than x f h))
+-- the same of the second: -0 and a value is that value
+pub add-plain-second : (x y : Float) → T (fits binary64 x) → T (fits binary64 y) → minus-zero y ≡ false → minus-zero (x +ᶠ y) ≡ false
+add-plain-second nan y f g h = add-plain nan y f g refl
+add-plain-second (inf s) y f g h = add-plain (inf s) y f g refl
+add-plain-second (fin true zero e) y f g h = rw (only-zero true e f, minus-zero-plus y g) h
+add-plain-second (fin false zero e) y f g h = add-plain (fin false zero e) y f g refl
+add-plain-second (fin s (suc m) e) y f g h = add-plain (fin s (suc m) e) y f g refl
 
-pub sub-no-minus-zero : (x y : Float) → T (fits binary64 x) → T (fits binary64 y) → (x ≡ negativeZero → ⊥) → x -ᶠ y ≡ negativeZero → ⊥
+-- ---- values other than -0, and what keeps them so
+-- a value that the format holds, and is not -0
+pub record Plain (y : Float) : Type 0 where
+  pub held : T (fits binary64 y)
+  pub other : minus-zero y ≡ false
+
+pub plain-is-other : {y : Float} → Plain y → y ≡ negativeZero → ⊥
+plain-is-other {y} p = no-minus-zero y (p .other)
+
+pub plain-zero : Plain +0
+plain-zero = record { held = unfold fits in tt; other = refl }
+
+pub plain-add : {x : Float} (y : Float) → Plain x → T (fits binary64 y) → Plain (x +ᶠ y)
+plain-add {x} y p g = record { held = add-fits binary64 x y; other = add-plain x y (p .held) g (p .other) }
+
+pub plain-sub : {x : Float} (y : Float) → Plain x → T (fits binary64 y) → Plain (x -ᶠ y)
 unfolding sub
-sub-no-minus-zero x y f g h = add-no-minus-zero x (neg y) f (neg-fits binary64 y g) h
+plain-sub y p g = plain-add (neg y) p (neg-fits binary64 y g)
 
-pub square-no-minus-zero : (x : Float) → x *ᶠ x ≡ negativeZero → ⊥
-unfolding mul
-square-no-minus-zero nan = no-minus-zero nan refl
-square-no-minus-zero (inf true) = no-minus-zero (inf false) refl
-square-no-minus-zero (inf false) = no-minus-zero (inf false) refl
-square-no-minus-zero (fin true m e) = no-minus-zero (round binary64 false (m * up e * (m * up e)) (down e * down e)) (plain-round (m * up e * (m * up e)) (down e * down e))
-square-no-minus-zero (fin false m e) = no-minus-zero (round binary64 false (m * up e * (m * up e)) (down e * down e)) (plain-round (m * up e * (m * up e)) (down e * down e))
+pub plain-max : {x y : Float} → Plain x → Plain y → Plain (max x y)
+unfolding max
+plain-max {x} {y} p q = go (x <ᶠ y) (ne x x)
+  where
+    go : (a b : Bool) → Plain (cond a y (cond b y x))
+    go true b = q
+    go false true = q
+    go false false = p
+
+pub plain-square : (x : Float) → Plain (x *ᶠ x)
+plain-square x = record { held = mul-fits binary64 x x; other = go x }
+  where
+    go : (v : Float) → minus-zero (v *ᶠ v) ≡ false
+    go nan = unfold mul in refl
+    go (inf true) = unfold mul in refl
+    go (inf false) = unfold mul in refl
+    go (fin true m e) = unfold mul in plain-round (m * up e * (m * up e)) (down e * down e)
+    go (fin false m e) = unfold mul in plain-round (m * up e * (m * up e)) (down e * down e)
+
+-- a sum that starts at either zero is the same once such a value is added
+pub plain-from-either-zero : {y : Float} (z : Bool) → Plain y → fin z 0 (pos 0) +ᶠ y ≡ y
+plain-from-either-zero {y} z p = either-zero-plus z y (p .held) (plain-is-other p)
