@@ -5,3 +5,4 @@ pub mod Sums
 pub mod RunLength
 pub mod Promise
 pub mod SumSigns
+pub mod Calls
