@@ -20,7 +20,7 @@ use Rattle.readings.specs.FirstGap.{FirstGap}
 use Rattle.readings.specs.declared.Shaped.the-variants as Shaped
 use Rattle.readings.proofs.FirstGapLaws.{first-gap}
 use Rattle.admission.specs.Tests.{badPenalty, shortRoom, roomTests, searchTests, passed}
-use Rattle.admission.proofs.AdmissionLaws.{passed-channels, shapely}
+use Rattle.admission.proofs.AdmissionLaws.{passed-channels, Shapely, shapely}
 
 -- what 8 says
 abbrev eight : ℕ → ℕ → Said
@@ -42,8 +42,14 @@ after-others ((false, r) ∷ ts) us s k i o e = after-others ts us s k i (and-r 
 same-place : (A : ℕ → ℕ → Type 0) (k i l j : ℕ) → eight k i ≡ eight l j → A l j → A k i
 same-place A k i l j e a = let r = refused-apart (Refusal.NonFinite k i) (Refusal.NonFinite l j) e in let p : k ≡ l = cc in let q : i ≡ j = cc in rw (p, q) a
 
+-- the search is strict, its channels fill the run, and this is the first gap
+pub record Gap (strict : Bool) (run : List Float) (lengths : List ℕ) (k i : ℕ) : Type 0 where
+  pub is-strict : strict ≡ true
+  pub shape : Shapely run lengths (length lengths) (firstLength lengths)
+  pub first : FirstGap run (length lengths) (firstLength lengths) k i
+
 module _ (strict : Bool) (penalty : Penalty) (m : ℕ) (run : List Float) (lengths : List ℕ) (cuts floats indices : ℕ) (s : Said) (k i : ℕ) where
-  pub refused-gap : eight k i ≡ tried (searchTests strict penalty m run lengths cuts floats indices) s → (eight k i ≡ s → ⊥) → (strict ≡ true) × FirstGap run (length lengths) (firstLength lengths) k i
+  pub refused-gap : eight k i ≡ tried (searchTests strict penalty m run lengths cuts floats indices) s → (eight k i ≡ s → ⊥) → Gap strict run lengths k i
   unfolding searchTests roomTests shapeTests shapedAs others tried
   refused-gap e other =
       let n = firstLength lengths in
@@ -53,11 +59,11 @@ module _ (strict : Bool) (penalty : Penalty) (m : ℕ) (run : List Float) (lengt
       let b = after-others (shapeTests lengths (length run)) room s k i tt (a .1) in
       let c = after-others ((shortRoom n (length lengths) cuts floats indices, Refusal.Room) ∷ []) ((strict && ltb at (length run), Refusal.NonFinite (channelAt n at) (indexAt n at)) ∷ []) s k i tt (b .1) in
       let shape = shapely run lengths (passed-channels (shapeTests lengths (length run)) (Shaped.Channels (length lengths) n) (b .0)) in
-      last strict (ltb at (length run)) refl (λ l. first-gap run (length lengths) n (shape .few) (shape .short) (shape .fill) (ltb-true at (length run) l)) (c .1)
+      last shape strict (ltb at (length run)) refl (λ l. first-gap run (length lengths) n (shape .few) (shape .short) (shape .fill) (ltb-true at (length run) l)) (c .1)
     where
-      last : (t b : Bool) → ltb (gapTo run (length run)) (length run) ≡ b → let n = firstLength lengths in let at = gapTo run (length run) in
+      last : Shapely run lengths (length lengths) (firstLength lengths) → (t b : Bool) → ltb (gapTo run (length run)) (length run) ≡ b → let n = firstLength lengths in let at = gapTo run (length run) in
           (ltb at (length run) ≡ true → FirstGap run (length lengths) n (channelAt n at) (indexAt n at))
-          → eight k i ≡ tried ((t && b, Refusal.NonFinite (channelAt n at) (indexAt n at)) ∷ []) s → (t ≡ true) × FirstGap run (length lengths) n k i
-      last true true l f e = (refl, same-place (FirstGap run (length lengths) (firstLength lengths)) k i _ _ e (f l))
-      last true false l f e = absurd (other e)
-      last false b l f e = absurd (other e)
+          → eight k i ≡ tried ((t && b, Refusal.NonFinite (channelAt n at) (indexAt n at)) ∷ []) s → Gap t run lengths k i
+      last shape true true l f e = record { is-strict = refl; shape = shape; first = same-place (FirstGap run (length lengths) (firstLength lengths)) k i _ _ e (f l) }
+      last shape true false l f e = absurd (other e)
+      last shape false b l f e = absurd (other e)
