@@ -2,7 +2,6 @@
 -- and its index among those that `overbrindle_cusum_signal_points` wrote. Assumes nothing.
 use mathlib.Core.Path.{_≡_, refl, sym, ap, _∙_}
 use Prim.Native.Nat.{ℕ, _+_, _<_}
-use native.Mathlib.Omega.{arith}
 use mathlib.Core.Bool.{Bool, true, false, not, cond}
 use mathlib.Core.List.{List, [], _∷_}
 use lib.Dec.{T, ltb}
@@ -10,8 +9,7 @@ use lib.ListN.{length, getD}
 use lib.Ieee.{Float}
 use Rattle.floats.specs.Finite.{finite}
 use Rattle.refusals.specs.Stated.{stated}
-use Rattle.refusals.specs.Said.{Said, refused, answered, tried}
-use Rattle.refusals.specs.declared.Refusal.{Refusal}
+use Rattle.refusals.specs.Said.{refused, answered, tried}
 use Rattle.refusals.specs.declared.Refusal.the-variants as Refusal
 use Rattle.walks.specs.Runs.{column}
 use Rattle.walks.specs.Among.{Among}
@@ -30,43 +28,18 @@ use Rattle.cusum.proofs.Promise.{in-series}
 use Rattle.cusum.proofs.Calls.{heard-one, record-signals, signal-points-has}
 use Rattle.told.specs.declared.Counted.{Counted}
 use Rattle.told.specs.Told.{toldOf, countedAs, countedOf, sideOf, runLengthOf, ToldMarks}
+use Rattle.told.proofs.ReadBack.{refusal-counted, result-counted}
 use Rattle.columns.specs.Columns.{flag, toldRecords, writtenRecords}
 use Rattle.columns.specs.CusumColumns.{signalOf, roomOf, CusumArrays}
 
 -- ---- what the number 0 tells
--- no refusal is told as 0
-refusal-told : (r : Refusal) (count : ℕ) → countedAs 0 count ≡ countedOf (refused (stated r)) → ⊥
-unfolding toldOf
-refusal-told r count e = go r (ap (λ (t : Counted). t .number) e)
-  where
-    go : (r : Refusal) → 0 ≡ stated r .number → ⊥
-    go Refusal.Penalty e = omega (arith, e)
-    go Refusal.MinLen e = omega (arith, e)
-    go Refusal.Channels e = omega (arith, e)
-    go Refusal.Shape e = omega (arith, e)
-    go Refusal.Unequal e = omega (arith, e)
-    go Refusal.TooLong e = omega (arith, e)
-    go Refusal.Room e = omega (arith, e)
-    go (Refusal.NonFinite k i) e = omega (arith, e)
-    go Refusal.Pool e = omega (arith, e)
-    go Refusal.Form e = omega (arith, e)
-    go Refusal.Chart e = omega (arith, e)
-    go Refusal.Piece e = omega (arith, e)
-
--- so where 0 is told, no refusal that was tried held
-result-told : (ts : List (Bool × Refusal)) (s : Said) (count : ℕ) → countedAs 0 count ≡ countedOf (tried ts s) → (tried ts s ≡ s) × (countedAs 0 count ≡ countedOf s)
-unfolding tried
-result-told [] s count e = (refl, e)
-result-told ((true, r) ∷ ts) s count e = absurd (refusal-told r count e)
-result-told ((false, r) ∷ ts) s count e = result-told ts s count e
-
 -- a run length
 told-heard : (c : Cusum) (v : Float) (side n : ℕ) → countedAs 0 n ≡ countedOf (runLengthOf c v side) → 0 < n → heardAs (Heard.At n) ≡ runLength c v (sideOf side)
 unfolding runLengthOf runLength toldOf
 told-heard c v side n e h =
     let l = heard c v (sideOf side) in
-    let a = result-told ((not (ltb side 2), Refusal.Form) ∷ []) (runLength c v (sideOf side)) n e in
-    let b = result-told ((not (accepted c), Refusal.Chart) ∷ (not (finite v), Refusal.NonFinite 0 0) ∷ []) (answered l) n (a .1) in
+    let a = result-counted ((not (ltb side 2), Refusal.Form) ∷ []) (runLength c v (sideOf side)) n e in
+    let b = result-counted ((not (accepted c), Refusal.Chart) ∷ (not (finite v), Refusal.NonFinite 0 0) ∷ []) (answered l) n (a .1) in
     ap answered (sym (heard-one c v (sideOf side) n (sym (ap (λ (t : Counted). t .count) (b .1))) h)) ∙ sym (b .0)
 
 -- the records
@@ -77,9 +50,9 @@ told-records ok n room count e = go ok (ltb 4096 n) (ltb room n) e
     go : (a b c : Bool) → countedAs 0 count ≡ countedOf (cond (not a) (refused (stated Refusal.Chart)) (cond b (refused (stated Refusal.TooLong)) (cond c (refused (stated Refusal.Room)) (answered (n ∷ [])))))
         → T a × (countOf (cond a (cond b (Charted.Refused Refusal.TooLong) (cond c (Charted.Refused Refusal.Room) (Charted.Records n))) (Charted.Refused Refusal.Chart)) ≡ n)
     go true false false e = (tt, refl)
-    go false b c e = absurd (refusal-told Refusal.Chart count e)
-    go true true c e = absurd (refusal-told Refusal.TooLong count e)
-    go true false true e = absurd (refusal-told Refusal.Room count e)
+    go false b c e = absurd (refusal-counted Refusal.Chart count e)
+    go true true c e = absurd (refusal-counted Refusal.TooLong count e)
+    go true false true e = absurd (refusal-counted Refusal.Room count e)
 
 -- ---- the promise: the reading n is told of a side by its number, and the reading at p + d is the nth finite one from p on
 module _ (c : Cusum) (v : Float) (side n : ℕ) (told-at : countedAs 0 n ≡ countedOf (runLengthOf c v side)) (some : 0 < n) (xs : List Float) (p d : ℕ) (lasting : Lasting (sideOf side) v xs p d n) where
@@ -97,4 +70,4 @@ module _ (c : Cusum) (v : Float) (side n : ℕ) (told-at : countedAs 0 n ≡ cou
     where
       go : (a : Signalled) → countedAs 0 count ≡ countedOf (signalled a) → Marked (accepted c) (length xs) (signalling c xs (length xs)) entry a exit → Among exit count (p + d)
       go (Signalled.Points k) e w = rw (ap (λ (t : Counted). t .count) e) (signal-points-has c v (sideOf side) n (told-heard c v side n told-at some) xs p d lasting entry exit k w)
-      go (Signalled.Refused r) e w = absurd (refusal-told r count e)
+      go (Signalled.Refused r) e w = absurd (refusal-counted r count e)

@@ -7,7 +7,7 @@ use lib.Dec.{T}
 use lib.ListN.{getD}
 use lib.Ieee.{Float, nan, binary64, fits}
 use lib.Ieee.Fits.{div-fits}
-use Rattle.floats.specs.Numbers.{_+ᶠ_, _-ᶠ_}
+use Rattle.floats.specs.Numbers.{_-ᶠ_}
 use Rattle.floats.specs.Finite.{finite}
 use Rattle.floats.specs.MinusZero.{negativeZero}
 use Rattle.floats.proofs.MinusZero.{Plain, plain-is-other, plain-zero, plain-add, plain-sub, plain-max}
@@ -15,7 +15,7 @@ use Rattle.charts.specs.declared.Observation.{Observation}
 use Rattle.walks.specs.Runs.{stateAt}
 use Rattle.cusum.specs.declared.Cusum.{Cusum}
 use Rattle.cusum.specs.declared.CusumResult.{CusumResult}
-use Rattle.cusum.specs.Chart.{score, fresh, stepOf, shownOf, startState, nextState, recordAt}
+use Rattle.cusum.specs.Chart.{score, stepOf, shownOf, startState, nextState, recordAt}
 
 -- both sums of a record
 record PlainSums (r : CusumResult) : Type 0 where

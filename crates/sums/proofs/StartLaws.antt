@@ -20,10 +20,10 @@ use Rattle.floats.specs.MinusZero.{negativeZero}
 use Rattle.floats.proofs.Exact.{only-zero, zero-plus, minus-zero-plus}
 use Rattle.floats.proofs.MinusZero.{no-minus-zero, Plain, plain-is-other, plain-zero, plain-add}
 use Rattle.sums.specs.Sums.{sumTo, meanOf, centred, centredTo, squaresTo}
-use Rattle.sums.specs.Start.{sumFrom, meanFrom, Readings}
+use Rattle.sums.specs.Start.{sumFrom, meanFrom, EachFits}
 
 -- ---- no sum is -0
-sum-plain : (xs : List Float) → Readings xs → (i : ℕ) → Plain (sumTo xs i)
+sum-plain : (xs : List Float) → EachFits xs → (i : ℕ) → Plain (sumTo xs i)
 unfolding sumTo
 sum-plain xs held zero = plain-zero
 sum-plain xs held (suc i) = plain-add (getD xs i nan) (sum-plain xs held i) (held i)
@@ -38,7 +38,7 @@ unfolding squaresTo
 squares-plain xs mean zero = plain-zero
 squares-plain xs mean (suc i) = let c = centred xs mean i in plain-add (c *ᶠ c) (squares-plain xs mean i) (mul-fits binary64 c c)
 
-pub sum-no-minus-zero : (xs : List Float) → Readings xs → (i : ℕ) → sumTo xs i ≡ negativeZero → ⊥
+pub sum-no-minus-zero : (xs : List Float) → EachFits xs → (i : ℕ) → sumTo xs i ≡ negativeZero → ⊥
 sum-no-minus-zero xs held i = plain-is-other (sum-plain xs held i)
 
 pub running-no-minus-zero : (xs : List Float) (mean : Float) (i : ℕ) → (centredTo xs mean i ≡ negativeZero → ⊥) × (squaresTo xs mean i ≡ negativeZero → ⊥)
@@ -67,7 +67,7 @@ decide (fin true zero e) f = inl (only-zero true e f)
 decide (fin false zero e) f = inr (no-minus-zero (fin false zero e) refl)
 decide (fin s (suc m) e) f = inr (no-minus-zero (fin s (suc m) e) refl)
 
-starts : (xs : List Float) → Readings xs → (i : ℕ) → (sumFrom negativeZero xs i ≡ sumTo xs i) ⊎ AllMinus xs i
+starts : (xs : List Float) → EachFits xs → (i : ℕ) → (sumFrom negativeZero xs i ≡ sumTo xs i) ⊎ AllMinus xs i
 unfolding sumFrom sumTo
 starts xs held zero = inr (λ j h. absurd (not-suc-le-zero h))
 starts xs held (suc i) = elim (starts xs held i) [
@@ -82,7 +82,7 @@ starts xs held (suc i) = elim (starts xs held i) [
         inl (ap (λ (s : Float). s +ᶠ getD xs i nan) (before .0) ∙ minus-zero-plus (getD xs i nan) (held i) ∙ sym (zero-plus (getD xs i nan) (held i) h) ∙ ap (λ (s : Float). s +ᶠ getD xs i nan) (sym (before .1)))
 
 -- it is the sum from +0 on where some reading is not -0
-pub sum-from-minus-zero : (xs : List Float) → Readings xs → (i j : ℕ) → j < i → (getD xs j nan ≡ negativeZero → ⊥) → sumFrom negativeZero xs i ≡ sumTo xs i
+pub sum-from-minus-zero : (xs : List Float) → EachFits xs → (i j : ℕ) → j < i → (getD xs j nan ≡ negativeZero → ⊥) → sumFrom negativeZero xs i ≡ sumTo xs i
 sum-from-minus-zero xs held i j h other = elim (starts xs held i) [ inl e ↦ e | inr all ↦ absurd (other (all j h)) ]
 
 -- ---- the running sums about either mean
@@ -124,7 +124,7 @@ minus-about xs false (suc i) all =
     (rw (before .0, all i (omega arith)) (unfold add sub in refl), rw (before .1, all i (omega arith)) (unfold add sub mul in refl))
 
 -- they are the same from either start, of as many readings as a float counts
-pub running-from-minus-zero : (xs : List Float) → Readings xs → length xs ≤ 2 ^ prec binary64 → (i : ℕ) → i ≤ length xs
+pub running-from-minus-zero : (xs : List Float) → EachFits xs → length xs ≤ 2 ^ prec binary64 → (i : ℕ) → i ≤ length xs
     → (centredTo xs (meanFrom negativeZero xs) i ≡ centredTo xs (meanOf xs) i) × (squaresTo xs (meanFrom negativeZero xs) i ≡ squaresTo xs (meanOf xs) i)
 unfolding meanFrom meanOf centredTo squaresTo
 running-from-minus-zero xs held short zero h = (refl, refl)

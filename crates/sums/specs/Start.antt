@@ -15,5 +15,5 @@ unfoldable pub meanFrom : Float → List Float → Float
 meanFrom start xs = sumFrom start xs (length xs) /ᶠ whole (length xs)
 
 -- every reading is a value of binary64, as those of a lent slice are
-abbrev pub Readings : List Float → Type 0
-Readings xs = (i : ℕ) → T (fits binary64 (getD xs i nan))
+abbrev pub EachFits : List Float → Type 0
+EachFits xs = (i : ℕ) → T (fits binary64 (getD xs i nan))
