@@ -1,1 +1,2 @@
 pub mod AdmissionLaws
+pub mod RefusedGap

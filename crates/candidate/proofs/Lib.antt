@@ -2,3 +2,4 @@ pub mod BoxLaws
 pub mod CutLaws
 pub mod Examples
 pub mod RootLaws
+pub mod SumLaws

@@ -3,3 +3,4 @@ pub mod Balls
 pub mod Cuts
 pub mod Compared
 pub mod Losses
+pub mod Started

@@ -1,2 +1,3 @@
 pub mod CostLaws
 pub mod AreaLaws
+pub mod StartLaws

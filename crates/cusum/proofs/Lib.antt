@@ -4,3 +4,5 @@ pub mod Hearing
 pub mod Sums
 pub mod RunLength
 pub mod Promise
+pub mod SumSigns
+pub mod Calls

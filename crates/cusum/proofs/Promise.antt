@@ -176,7 +176,7 @@ lasting-signals c ok side v F n first xs p d l =
 
 -- ---- the same of the records in the lent slice, wherever `analyze` answered with records
 -- a reading that is finite stands in the series
-in-series : (xs : List Float) (i : ℕ) → T (finite (getD xs i nan)) → i < length xs
+pub in-series : (xs : List Float) (i : ℕ) → T (finite (getD xs i nan)) → i < length xs
 in-series [] i t = absurd t
 in-series (x ∷ xs) zero t = zero-lt-suc (length xs)
 in-series (x ∷ xs) (suc i) t = suc-le-suc (in-series xs i t)

@@ -1,3 +1,5 @@
 pub mod Order
 pub mod Outcomes
 pub mod Examples
+pub mod Exact
+pub mod MinusZero

@@ -1,3 +1,4 @@
 pub mod NoiseLaws
 pub mod Outcomes
 pub mod Examples
+pub mod StartLaws

@@ -4,3 +4,4 @@ pub mod GapLaws
 pub mod ChannelLaws
 pub mod Examples
 pub mod ShapeLaws
+pub mod FirstGapLaws

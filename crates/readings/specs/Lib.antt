@@ -2,3 +2,4 @@ pub mod Parts
 pub mod Shape
 pub mod Gaps
 pub mod Channels
+pub mod FirstGap

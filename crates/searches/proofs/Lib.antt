@@ -1,3 +1,4 @@
 pub mod Examples
 pub mod CutLaws
 pub mod Outcomes
+pub mod FrontLaws

@@ -1,3 +1,4 @@
 pub mod SumLaws
 pub mod Outcomes
 pub mod ChannelLaws
+pub mod StartLaws

@@ -1,2 +1,3 @@
 pub mod Sums
 pub mod EachChannel
+pub mod Start

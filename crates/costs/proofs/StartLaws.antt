@@ -1,0 +1,39 @@
+-- A segment is the same where the channel's sum starts at -0. No L2 cost is -0, so that a sum of such costs over the channels is the same from either zero on. Assumes nothing.
+use mathlib.Core.Path.{_≡_}
+use Prim.Native.Nat.{ℕ, _^_, _≤_}
+use mathlib.Core.Bool.{Bool}
+use mathlib.Core.List.{List}
+use lib.IntN.{pos}
+use lib.ListN.{length}
+use lib.Ieee.{Float, fin, binary64, prec}
+use lib.Ieee.Fits.{mul-fits}
+use Rattle.floats.specs.Numbers.{_+ᶠ_, _*ᶠ_, _/ᶠ_}
+use Rattle.floats.specs.MinusZero.{negativeZero}
+use Rattle.floats.proofs.MinusZero.{Plain, plain-is-other, plain-sub, plain-from-either-zero}
+use Rattle.sums.specs.Sums.{squaresTo}
+use Rattle.sums.specs.Start.{meanFrom, EachFits}
+use Rattle.sums.proofs.StartLaws.{squares-plain, running-from-minus-zero}
+use Rattle.costs.specs.Costs.{segmentAbout, segmentOf, l2Cost}
+
+module _ (xs : List Float) (mean : Float) (a b : ℕ) where
+  l2-plain : Plain (l2Cost (segmentAbout xs mean a b))
+  unfolding l2Cost segmentAbout
+  l2-plain =
+      let s = segmentAbout xs mean a b in
+      let m = s .sum /ᶠ s .length in
+      plain-sub (s .length *ᶠ m *ᶠ m) (plain-sub (squaresTo xs mean a) (squares-plain xs mean b) (squares-plain xs mean a .held)) (mul-fits binary64 (s .length *ᶠ m) m)
+
+  pub l2-no-minus-zero : l2Cost (segmentAbout xs mean a b) ≡ negativeZero → ⊥
+  l2-no-minus-zero = plain-is-other l2-plain
+
+  -- the first channel's cost, added to the zero that a sum starts at
+  pub l2-from-either-zero : (z : Bool) → fin z 0 (pos 0) +ᶠ l2Cost (segmentAbout xs mean a b) ≡ l2Cost (segmentAbout xs mean a b)
+  l2-from-either-zero z = plain-from-either-zero z l2-plain
+
+-- ---- a segment about the mean of a sum from -0 on
+pub segment-from-minus-zero : (xs : List Float) → EachFits xs → length xs ≤ 2 ^ prec binary64 → (a b : ℕ) → a ≤ length xs → b ≤ length xs → segmentAbout xs (meanFrom negativeZero xs) a b ≡ segmentOf xs a b
+unfolding segmentAbout segmentOf
+segment-from-minus-zero xs held short a b h l =
+    let p = running-from-minus-zero xs held short a h in
+    let q = running-from-minus-zero xs held short b l in
+    rw (p .0, p .1, q .0, q .1)

@@ -1,0 +1,94 @@
+-- Demand 3 in the words of the calls. If `run_length` answers `At n`, then the nth of any next n finite readings at the level or beyond it signals, in the records that `analyze` wrote and among the indices that `signal_points` wrote.
+-- And a chart that is fed one level is the chart over a series of that level. Assumes nothing.
+use mathlib.Core.Path.{_≡_, refl, sym, ap, _∙_}
+use Prim.Native.Nat.{ℕ, zero, suc, _+_, _≤_, _<_}
+use native.Mathlib.Omega.{arith}
+use mathlib.Core.Bool.{Bool, true, false, not, cond}
+use mathlib.Core.List.{List, [], _∷_}
+use lib.Dec.{T}
+use lib.ListN.{length, getD, drop, replicate, getD-replicate}
+use lib.Ieee.{Float, nan}
+use Rattle.floats.specs.Numbers.{_<ᶠ_}
+use Rattle.floats.specs.Finite.{finite}
+use Rattle.refusals.specs.Stated.{stated}
+use Rattle.refusals.specs.Said.{refused, answered, tried}
+use Rattle.refusals.specs.declared.Refusal.the-variants as Refusal
+use Rattle.walks.specs.Runs.{stateAt}
+use Rattle.walks.specs.Among.{Among}
+use Rattle.walks.proofs.Points.{among-front, signal-among}
+use Rattle.charts.specs.declared.Charted.the-variants as Charted
+use Rattle.charts.specs.declared.Signalled.the-variants as Signalled
+use Rattle.charts.proofs.Answers.{answered-accepted}
+use Rattle.cusum.specs.declared.Cusum.{Cusum}
+use Rattle.cusum.specs.declared.CusumResult.{CusumResult}
+use Rattle.cusum.specs.declared.Side.{Side}
+use Rattle.cusum.specs.declared.Heard.the-variants as Heard
+use Rattle.cusum.specs.Chart.{accepted, fresh, shownOf, startState, nextState, recordAt, signalOf, signalling, Analyzed, Marked}
+use Rattle.cusum.specs.RunLength.{sumOf, fed, heardFrom, heard, heardAs, runLength}
+use Rattle.cusum.specs.Promise.{FirstHeard, Lasting}
+use Rattle.cusum.proofs.Hearing.{fedOnce, heard-now, heard-later}
+use Rattle.cusum.proofs.RunLength.{heard-is-first}
+use Rattle.cusum.proofs.Promise.{in-series, lasting-signals, lasting-signals-lent}
+
+-- ---- a chart that is fed one level
+module _ (c : Cusum) (v : Float) (k : ℕ) where
+  fed-before : (i : ℕ) → i ≤ k → shownOf (stateAt shownOf startState nextState c (replicate k v) i) ≡ fed c v i
+  unfolding fed
+  fed-before zero h = refl
+  fed-before (suc i) h = rw (fed-before i (omega arith), getD-replicate k i v nan (omega arith))
+
+  -- the record of reading i, from 0, of k readings of the level
+  pub fed-is-series : (i : ℕ) → i < k → recordAt c (replicate k v) i ≡ fed c v (suc i)
+  fed-is-series i h = fed-before (suc i) h
+
+-- ---- what `At n` says
+record HeardFirst (c : Cusum) (v : Float) (side : Side) (n : ℕ) : Type 0 where
+  level : T (finite v)
+  first : FirstHeard c v side n
+
+heard-first : (c : Cusum) (v : Float) (side : Side) (n : ℕ) → heardAs (Heard.At n) ≡ runLength c v side → HeardFirst c v side n
+unfolding runLength tried
+heard-first c v side n e = go (accepted c) (finite v) refl e
+  where
+    go : (a b : Bool) → finite v ≡ b → answered (n ∷ []) ≡ cond (not a) (refused (stated Refusal.Chart)) (cond (not b) (refused (stated (Refusal.NonFinite 0 0))) (answered (heard c v side))) → HeardFirst c v side n
+    go true true f e = record { level = rw f tt; first = heard-is-first c v side n (cc) .0 }
+    go true false f e = absurd (let z : _≡_ {A = ℕ} 0 1 = cc in omega arith)
+    go false b f e = absurd (let z : _≡_ {A = ℕ} 0 1 = cc in omega arith)
+
+-- what is heard is one number or none, so that its first, where it is above 0, says it
+one-from : (c : Cusum) (v : Float) (side : Side) (n k m : ℕ) (r : CusumResult) → getD (heardFrom c v side k m r) 0 0 ≡ n → 0 < n → heardFrom c v side k m r ≡ n ∷ []
+unfolding heardFrom
+one-from c v side n zero m r e h = absurd (none n e h)
+  where
+    none : (n : ℕ) → 0 ≡ n → 0 < n → ⊥
+    none n e h = omega (arith, e, h)
+one-from c v side n (suc k) m r e h = go (c .h <ᶠ sumOf side (fedOnce c v side r m)) refl (one-from c v side n k (suc m) (fedOnce c v side r m))
+  where
+    go : (b : Bool) → (c .h <ᶠ sumOf side (fedOnce c v side r m)) ≡ b → (getD (heardFrom c v side k (suc m) (fedOnce c v side r m)) 0 0 ≡ n → 0 < n → heardFrom c v side k (suc m) (fedOnce c v side r m) ≡ n ∷ [])
+        → heardFrom c v side (suc k) m r ≡ n ∷ []
+    go true t later = let now = heard-now c v side k m r t in now ∙ ap (λ (j : ℕ). j ∷ []) (sym (ap (λ (l : List ℕ). getD l 0 0) now) ∙ e)
+    go false t later = let on = heard-later c v side k m r t in on ∙ later (sym (ap (λ (l : List ℕ). getD l 0 0) on) ∙ e) h
+
+pub heard-one : (c : Cusum) (v : Float) (side : Side) (n : ℕ) → getD (heard c v side) 0 0 ≡ n → 0 < n → heard c v side ≡ n ∷ []
+unfolding heard
+heard-one c v side n = one-from c v side n 4096 0 fresh
+
+-- ---- the promise
+module _ (c : Cusum) (v : Float) (side : Side) (n : ℕ) (heard-at : heardAs (Heard.At n) ≡ runLength c v side) (xs : List Float) (p d : ℕ) (lasting : Lasting side v xs p d n) where
+  -- the definition's record, of settings that are accepted
+  pub record-signals : T (accepted c) → recordAt c xs (p + d) .signal ≡ true
+  record-signals ok = let f = heard-first c v side n heard-at in lasting-signals c ok side v (f .level) n (f .first) xs p d lasting
+
+  -- where `analyze` answered with records, that of the reading at p + d signals
+  pub analyze-signals : (entry exit : List CusumResult) (k : ℕ) → Analyzed c xs entry (Charted.Records k) exit → getD exit (p + d) fresh .signal ≡ true
+  analyze-signals entry exit k a = let f = heard-first c v side n heard-at in lasting-signals-lent c xs entry exit k a side v (f .level) n (f .first) p d lasting
+
+  -- where `signal_points` answered with so many indices, p + d is one of them
+  pub signal-points-has : (entry exit : List ℕ) (count : ℕ) → Marked c xs entry (Signalled.Points count) exit → Among exit count (p + d)
+  signal-points-has entry exit count a =
+      let points = signalling c xs (length xs) in
+      let said = answered-accepted (accepted c) (length xs) (length entry) (length points ∷ []) (count ∷ []) (a .answer) in
+      let all : count ≡ length points = cc (said .1) in
+      rw (a .written, all)
+      (among-front points (drop (length points) entry) (p + d)
+      (signal-among shownOf startState nextState c xs signalOf (length xs) (p + d) (in-series xs (p + d) (lasting .last)) (record-signals (said .0))))
