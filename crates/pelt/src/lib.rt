@@ -78,8 +78,8 @@ impl Pelt {
     ) -> Searched
         ensures { λ r. ⌜ Detected false self (now (readings .entry)) (length (now (readings .entry)) ∷ []) (now (cuts .entry)) (now (cuts .exit)) (now (floats .entry)) (now (floats .exit)) (now (indices .entry)) (now (indices .exit)) (now (pool .entry)) (now (pool .exit)) r ⌝ }
     {
-        let lengths = [readings.len()];
-        self.detect_multi(readings, &lengths, cuts, floats, indices, pool)
+        let one = [readings.len()];
+        self.detect_multi(readings, &one, cuts, floats, indices, pool)
     }
 
     // The same of one channel or more, which stand one after the other in `readings` and have these
