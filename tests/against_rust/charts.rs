@@ -130,45 +130,46 @@ impl Chart {
 
     /// What the Rust makes of it. EWMA's limits take a power, which the Rust leaves open: its records are
     /// those of a copy with document 01's, from which the unmodified ones may differ by that alone.
-    fn records(&self) -> Result<(Answer, Option<&'static str>), String> {
+    fn records(&self, fault: Fault) -> Result<(Answer, Option<&'static str>), String> {
         let settings = self.made_with();
         if self.kind == Kind::Cusum {
             let answer = charted::cusum_answer(&settings, &self.readings);
             return Ok((answer.expect("a chart"), None));
         }
-        let unmodified = charted::ewma_answer(&settings, &self.readings).expect("a chart");
+        let mut unmodified = charted::ewma_answer(&settings, &self.readings).expect("a chart");
+        damage_unmodified(fault, &mut unmodified);
         let ruled = ruled_answer(&settings, &self.readings).expect("a chart");
         let named = differ_by_powers(&unmodified, &ruled)?.then_some(POWERS);
         Ok((ruled, named))
     }
 
     /// The refusal, or what the Rust makes of it.
-    fn due(&self, met: &[u32]) -> Result<Due, String> {
+    fn due(&self, met: &[u32], fault: Fault) -> Result<Due, String> {
         if let Some(&number) = met.first() {
             let (answer, named) = (Err(number), None);
             return Ok(Due { answer, named });
         }
-        let (answer, named) = self.records()?;
+        let (answer, named) = self.records(fault)?;
         let answer = Ok(answer);
         Ok(Due { answer, named })
     }
 
     /// The wrapper sizes the room itself, so it does not meet the refusal of room.
-    fn check_wrapper(&self, due: &Due) -> Result<(), String> {
+    fn check_wrapper(&self, due: &Due, fault: Fault) -> Result<(), String> {
         match due.answer {
-            Err(ROOM) => wrapped::chart(self, &self.due(&[])?.answer),
+            Err(ROOM) => wrapped::chart(self, &self.due(&[], fault)?.answer),
             _ => wrapped::chart(self, &due.answer),
         }
     }
 
     pub fn check(&self, areas: &mut Areas, fault: Fault) -> Result<Outcome, String> {
         let met = self.met();
-        let due = self.due(&met)?;
+        let due = self.due(&met, fault)?;
         areas.lend(self);
         let mut said = self.ask(areas);
         damage(fault, self, &mut said, areas);
         self.compare(&due.answer, said, areas)?;
-        self.check_wrapper(&due)?;
+        self.check_wrapper(&due, fault)?;
         let outcome = match &due.answer {
             Err(_) => told(&met),
             Ok(answer) if answer.points.is_empty() => "without a signal".into(),
@@ -277,30 +278,30 @@ fn ruled_answer(settings: &Settings, readings: &[f64]) -> Option<Answer> {
     })
 }
 
-/// Whether the platform's powers give other limits than document 01's. They may move both limits of a
-/// record and, where they do, its signal; never the statistic, the index or the number of records.
+/// Whether the platform's power gives this record other limits than document 01's. It may move the limits
+/// and, where it does, the signal; nothing where more than that differs.
+fn limits_moved(by_rule: &Record, by_platform: &Record) -> Option<bool> {
+    let bits = |record: &Record| -> Vec<u64> {
+        record.values.iter().map(|&value| pattern(value)).collect()
+    };
+    let (ruled, platform) = (bits(by_rule), bits(by_platform));
+    let moved = ruled[1..] != platform[1..];
+    let same_statistic = ruled[0] == platform[0] && by_rule.index == by_platform.index;
+    let same_signal = moved || by_rule.signal == by_platform.signal;
+    (same_statistic && same_signal).then_some(moved)
+}
+
+/// Whether the unmodified Rust differs from the copy with document 01's powers, which may only be in limits
+/// and by them in signals: there are as many records, and the same points where no limit differs.
 fn differ_by_powers(unmodified: &Answer, ruled: &Answer) -> Result<bool, String> {
-    let beside = || Err("the copy's records differ by more than powers".to_string());
-    if unmodified.records.len() != ruled.records.len() {
-        return beside();
-    }
-    let mut differ = false;
-    for (ours, theirs) in ruled.records.iter().zip(&unmodified.records) {
-        let bits = |record: &Record| -> Vec<u64> {
-            record.values.iter().map(|&value| pattern(value)).collect()
-        };
-        let (ours_bits, theirs_bits) = (bits(ours), bits(theirs));
-        let moved = ours_bits[1..] != theirs_bits[1..];
-        let kept = ours_bits[0] == theirs_bits[0] && ours.index == theirs.index;
-        if !kept || !moved && ours.signal != theirs.signal {
-            return beside();
-        }
-        differ |= moved;
-    }
-    match differ || unmodified.points == ruled.points {
-        true => Ok(differ),
-        false => beside(),
-    }
+    let pairs = ruled.records.iter().zip(&unmodified.records);
+    let moved: Option<Vec<bool>> = pairs.map(|(r, u)| limits_moved(r, u)).collect();
+    let differ = moved.map(|moved| moved.contains(&true));
+    let as_many = ruled.records.len() == unmodified.records.len();
+    let same_points = differ == Some(true) || ruled.points == unmodified.points;
+    differ
+        .filter(|_| as_many && same_points)
+        .ok_or("the copy with document 01's powers differs by more than limits".into())
 }
 
 impl Areas {
@@ -360,6 +361,30 @@ impl RunLength {
         };
         let named = None;
         Ok(Outcome { outcome, named })
+    }
+}
+
+/// Puts the fault that is asked for into the unmodified EWMA records, as if they came by another power: only
+/// limits, and signals by them, may differ by that.
+fn damage_unmodified(fault: Fault, unmodified: &mut Answer) {
+    let Some(last) = unmodified.records.last_mut() else {
+        return;
+    };
+    let flip = |value: &mut f64| *value = f64::from_bits(value.to_bits() ^ 1);
+    if fault.is("another signal by no power") {
+        last.signal = !last.signal;
+    }
+    if fault.is("another power and statistic") {
+        flip(&mut last.values[1]);
+        flip(&mut last.values[0]);
+    }
+    if fault.is("another power and index") {
+        flip(&mut last.values[1]);
+        last.index += 1;
+    }
+    if fault.is("another power and a record less") {
+        flip(&mut unmodified.records[0].values[1]);
+        unmodified.records.pop();
     }
 }
 

@@ -5,7 +5,7 @@
 #[derive(Clone, Copy, Default)]
 pub struct Fault(Option<&'static str>);
 
-pub const FAULTS: [&str; 44] = [
+pub const FAULTS: [&str; 48] = [
     "search number",
     "search count",
     "search place",
@@ -33,6 +33,10 @@ pub const FAULTS: [&str; 44] = [
     "record before",
     "signal beyond",
     "index beyond",
+    "another signal by no power",
+    "another power and statistic",
+    "another power and index",
+    "another power and a record less",
     "points",
     "points behind",
     "points beyond",
