@@ -3,6 +3,7 @@
 use crate::calls::{Call, Lent};
 use crate::charts::{self, Chart, RunLength};
 use crate::faults::Fault;
+use crate::heard::Heard;
 use crate::lending::Area;
 use crate::noises::Noise;
 use crate::pieces::Piece;
@@ -20,6 +21,7 @@ pub enum Case {
     Search(Search),
     Chart(Chart),
     RunLength(RunLength),
+    Heard(Heard),
     Piece(Piece),
     Noise(Noise),
 }
@@ -38,6 +40,7 @@ impl Case {
             Case::Search(search) => search.check(&mut lending.search, fault),
             Case::Chart(chart) => chart.check(&mut lending.chart, fault),
             Case::RunLength(run_length) => run_length.check(fault),
+            Case::Heard(heard) => heard.check(fault),
             Case::Piece(piece) => summaries::check(piece, fault),
             Case::Noise(noise) => noise.check(&mut lending.noise, fault),
         }
@@ -50,6 +53,7 @@ impl Case {
             Case::Search(search) => smaller_searches(search),
             Case::Chart(chart) => smaller_charts(chart),
             Case::RunLength(run_length) => smaller_run_lengths(run_length),
+            Case::Heard(heard) => smaller_heard(heard),
             Case::Piece(piece) => smaller_pieces(piece),
             Case::Noise(noise) => smaller_noises(noise),
         }
@@ -207,22 +211,19 @@ fn smaller_searches(search: &Search) -> Vec<Case> {
     smaller_calls(&search.call).into_iter().map(case).collect()
 }
 
+/// A chart by `new` keeps the last two of its settings.
+fn settings_to_shrink(by_new: bool) -> std::ops::Range<usize> {
+    0..if by_new { 2 } else { 4 }
+}
+
 fn smaller_charts(chart: &Chart) -> Vec<Case> {
-    let mut charts = Vec::new();
-    let mut with = |readings: Vec<f64>| {
-        let readings = Rc::new(readings);
-        charts.push(Chart {
-            readings,
-            ..chart.clone()
-        });
+    let with = |readings| Chart {
+        readings,
+        ..chart.clone()
     };
-    for (start, end) in ranges(chart.readings.len()) {
-        let mut shorter = chart.readings.to_vec();
-        shorter.drain(start..end);
-        with(shorter);
-    }
-    simpler_readings(&chart.readings).into_iter().for_each(with);
-    for at in 0..4 {
+    let smaller = smaller_series(&chart.readings).into_iter();
+    let mut charts: Vec<Chart> = smaller.map(with).collect();
+    for at in settings_to_shrink(chart.by_new) {
         for value in simpler(chart.settings[at]) {
             let mut changed = chart.clone();
             changed.settings[at] = value;
@@ -241,7 +242,7 @@ fn smaller_charts(chart: &Chart) -> Vec<Case> {
 
 fn smaller_run_lengths(run_length: &RunLength) -> Vec<Case> {
     let mut smaller = Vec::new();
-    for at in 0..4 {
+    for at in settings_to_shrink(run_length.by_new) {
         for value in simpler(run_length.settings[at]) {
             let mut changed = *run_length;
             changed.settings[at] = value;
@@ -255,6 +256,31 @@ fn smaller_run_lengths(run_length: &RunLength) -> Vec<Case> {
         }));
     }
     smaller
+}
+
+/// Readings that are fewer or simpler.
+fn smaller_series(readings: &[f64]) -> Vec<Rc<Vec<f64>>> {
+    let mut smaller = Vec::new();
+    for (start, end) in ranges(readings.len()) {
+        let mut shorter = readings.to_vec();
+        shorter.drain(start..end);
+        smaller.push(Rc::new(shorter));
+    }
+    smaller.extend(simpler_readings(readings).into_iter().map(Rc::new));
+    smaller
+}
+
+fn smaller_heard(heard: &Heard) -> Vec<Case> {
+    let with = |readings| {
+        Case::Heard(Heard {
+            readings,
+            ..heard.clone()
+        })
+    };
+    smaller_series(&heard.readings)
+        .into_iter()
+        .map(with)
+        .collect()
 }
 
 fn smaller_pieces(piece: &Piece) -> Vec<Case> {
@@ -345,13 +371,21 @@ impl fmt::Display for Values<'_> {
     }
 }
 
+fn constructor(by_new: bool) -> &'static str {
+    match by_new {
+        true => "new",
+        false => "with_params",
+    }
+}
+
 impl fmt::Display for Case {
     fn fmt(&self, f: &mut fmt::Formatter) -> fmt::Result {
         match self {
             Case::Search(Search { call, numbers }) => {
+                let several = if call.multi { "_multi" } else { "" };
                 let strict = if call.strict { "_strict" } else { "" };
                 let cost = if call.settings.normal { "Normal" } else { "L2" };
-                write!(f, "detect_multi{strict}: {cost}, ")?;
+                write!(f, "detect{several}{strict}: {cost}, ")?;
                 match call.settings.custom {
                     None => write!(f, "BIC")?,
                     Some(value) => write!(f, "custom {value:?}")?,
@@ -385,16 +419,27 @@ impl fmt::Display for Case {
                 };
                 write!(
                     f,
-                    "{:?} {asked}: settings {}",
+                    "{:?} by {}, {asked}: settings {}",
                     chart.kind,
+                    constructor(chart.by_new),
                     Values(&chart.settings)
                 )?;
                 write!(f, ", areas longer by {:?}", chart.spare)?;
                 write!(f, ", readings {}", Values(&chart.readings))
             }
             Case::RunLength(asked) => {
-                write!(f, "run_length: settings {}", Values(&asked.settings))?;
+                let by = constructor(asked.by_new);
+                write!(
+                    f,
+                    "run_length by {by}: settings {}",
+                    Values(&asked.settings)
+                )?;
                 write!(f, ", level {}, side {}", Values(&[asked.level]), asked.side)
+            }
+            Case::Heard(heard) => {
+                write!(f, "demand 3: settings {}", Values(&heard.settings))?;
+                write!(f, ", level {}, side {}", Values(&[heard.level]), heard.side)?;
+                write!(f, ", readings {}", Values(&heard.readings))
             }
             Case::Piece(piece) => {
                 let (start, end) = (piece.start, piece.end);

@@ -1,19 +1,20 @@
 //! Charts and run lengths: what they have to answer and to leave, by the unmodified Rust and by document
 //! 01's table of refusals, and whether they do.
 
-use crate::charted::{self, Answer};
+use crate::charted::{self, Answer, Record};
 use crate::faults::Fault;
 use crate::lending::{same_float, same_word, Area, Bytes, Rest, Word};
-use crate::overbrindle::{lent, Cusum, Ewma, Side};
-use crate::rules;
+use crate::overbrindle::{lent, Cusum, Ewma};
+use crate::rules::pattern;
 use crate::series::Settings;
-use crate::Outcome;
+use crate::{wrapped, Outcome};
 use std::rc::Rc;
 
-const FORM: u32 = 10;
-const CHART: u32 = 11;
 const TOO_LONG: u32 = 6;
 const ROOM: u32 = 7;
+const NON_FINITE: u32 = 8;
+const FORM: u32 = 10;
+const CHART: u32 = 11;
 const MOST_READINGS: usize = 4096;
 /// What docs/DIFFERENCES.md says of powers.
 const POWERS: &str = "`powi`";
@@ -24,11 +25,12 @@ pub enum Kind {
     Ewma,
 }
 
-/// A chart's records or signal points. Each area has as many places as there are readings, and so many
-/// more or less; the last of `spare` is for the signal points.
+/// A chart's records or signal points, of a chart made by `new` or with parameters. Each area has as many
+/// places as there are readings, and so many more or less; the last of `spare` is for the signal points.
 #[derive(Clone)]
 pub struct Chart {
     pub kind: Kind,
+    pub by_new: bool,
     pub settings: [f64; 4],
     pub readings: Rc<Vec<f64>>,
     pub points: bool,
@@ -38,6 +40,7 @@ pub struct Chart {
 /// The run length of a level by the sum of this number.
 #[derive(Clone, Copy)]
 pub struct RunLength {
+    pub by_new: bool,
     pub settings: [f64; 4],
     pub level: f64,
     pub side: u32,
@@ -52,7 +55,14 @@ pub struct Areas {
     points: Area,
 }
 
-fn cusum(settings: [f64; 4]) -> Cusum {
+/// What a chart has to answer, and under which name of docs/DIFFERENCES.md the Rust has another answer.
+struct Due {
+    answer: Result<Answer, u32>,
+    named: Option<&'static str>,
+}
+
+/// The settings as they cross the boundary, whichever constructor the Rust takes them by.
+pub fn cusum(settings: [f64; 4]) -> Cusum {
     let [target, sigma, k, h] = settings;
     Cusum {
         target,
@@ -95,59 +105,78 @@ impl Chart {
             .any(|&area| self.size(area) < self.readings.len())
     }
 
-    /// The refusal, or what the Rust makes of it.
-    fn due(&self) -> Result<Answer, u32> {
-        let settings = Settings::with(self.settings);
+    /// How the Rust makes the chart.
+    pub fn made_with(&self) -> Settings {
+        Settings {
+            by_new: self.by_new,
+            values: self.settings,
+        }
+    }
+
+    /// The refusals whose conditions the call meets, each by itself, in the order of document 01.
+    fn met(&self) -> Vec<u32> {
         let made = match self.kind {
-            Kind::Cusum => charted::cusum_chart(&settings).is_some(),
-            Kind::Ewma => charted::ewma_chart(&settings).is_some(),
+            Kind::Cusum => charted::cusum_chart(&self.made_with()).is_some(),
+            Kind::Ewma => charted::ewma_chart(&self.made_with()).is_some(),
         };
         let tests = [
             (!made, CHART),
             (self.readings.len() > MOST_READINGS, TOO_LONG),
             (self.short(), ROOM),
         ];
-        if let Some((_, number)) = tests.into_iter().find(|(met, _)| *met) {
-            return Err(number);
-        }
-        let answer = match self.kind {
-            Kind::Cusum => charted::cusum_answer(&settings, &self.readings),
-            Kind::Ewma => charted::ewma_answer(&settings, &self.readings),
-        };
-        Ok(answer.expect("a chart"))
+        let met = tests.into_iter().filter(|(met, _)| *met);
+        met.map(|(_, number)| number).collect()
     }
 
-    /// Whether the platform has another power than document 01's rule for a place of this chart: then
-    /// its limits may differ.
-    fn powers_differ(&self) -> bool {
-        let base = 1.0 - self.settings[2];
-        let differs = |place: u64| {
-            let platform = base.powi(2 * place as i32);
-            platform.to_bits() != rules::powi(base, 2 * place).to_bits()
-        };
-        self.kind == Kind::Ewma && (1..=self.readings.len() as u64).any(differs)
+    /// What the Rust makes of it. EWMA's limits take a power, which the Rust leaves open: its records are
+    /// those of a copy with document 01's, from which the unmodified ones may differ by that alone.
+    fn records(&self, fault: Fault) -> Result<(Answer, Option<&'static str>), String> {
+        let settings = self.made_with();
+        if self.kind == Kind::Cusum {
+            let answer = charted::cusum_answer(&settings, &self.readings);
+            return Ok((answer.expect("a chart"), None));
+        }
+        let mut unmodified = charted::ewma_answer(&settings, &self.readings).expect("a chart");
+        damage_unmodified(fault, &mut unmodified);
+        let ruled = ruled_answer(&settings, &self.readings).expect("a chart");
+        let named = differ_by_powers(&unmodified, &ruled)?.then_some(POWERS);
+        Ok((ruled, named))
+    }
+
+    /// The refusal, or what the Rust makes of it.
+    fn due(&self, met: &[u32], fault: Fault) -> Result<Due, String> {
+        if let Some(&number) = met.first() {
+            let (answer, named) = (Err(number), None);
+            return Ok(Due { answer, named });
+        }
+        let (answer, named) = self.records(fault)?;
+        let answer = Ok(answer);
+        Ok(Due { answer, named })
+    }
+
+    /// The wrapper sizes the room itself, so it does not meet the refusal of room.
+    fn check_wrapper(&self, due: &Due, fault: Fault) -> Result<(), String> {
+        match due.answer {
+            Err(ROOM) => wrapped::chart(self, &self.due(&[], fault)?.answer),
+            _ => wrapped::chart(self, &due.answer),
+        }
     }
 
     pub fn check(&self, areas: &mut Areas, fault: Fault) -> Result<Outcome, String> {
-        let due = self.due();
+        let met = self.met();
+        let due = self.due(&met, fault)?;
         areas.lend(self);
         let mut said = self.ask(areas);
         damage(fault, self, &mut said, areas);
-        let compared = self.compare(&due, said, areas);
-        let named = compared.is_err() && self.powers_differ();
-        if !named {
-            compared?;
-            self.check_wrapper(&due)?;
-        }
-        let outcome = match &due {
-            Err(number) => format!("refusal {number}"),
+        self.compare(&due.answer, said, areas)?;
+        self.check_wrapper(&due, fault)?;
+        let outcome = match &due.answer {
+            Err(_) => told(&met),
             Ok(answer) if answer.points.is_empty() => "without a signal".into(),
             Ok(_) => "with signals".into(),
         };
-        Ok(Outcome {
-            outcome,
-            named: named.then_some(POWERS),
-        })
+        let named = due.named;
+        Ok(Outcome { outcome, named })
     }
 
     fn ask(&self, areas: &mut Areas) -> (u32, usize) {
@@ -220,51 +249,59 @@ impl Chart {
             .points
             .compare("points", &points, Rest::AsLent, same_word)
     }
+}
 
-    /// The wrapper that sizes the room says the same, but for the refusal of room, which it does not
-    /// meet.
-    fn check_wrapper(&self, due: &Result<Answer, u32>) -> Result<(), String> {
-        let found = match (self.kind, self.points) {
-            (Kind::Cusum, true) => cusum(self.settings).signal_points(&self.readings),
-            (Kind::Ewma, true) => ewma(self.settings).signal_points(&self.readings),
-            (Kind::Cusum, false) => {
-                let records = cusum(self.settings).analyze(&self.readings);
-                let signals = |r: Vec<_>| {
-                    points(
-                        r.iter()
-                            .map(|r: &crate::overbrindle::CusumResult| (r.signal, r.index)),
-                    )
-                };
-                records.map(signals)
-            }
-            (Kind::Ewma, false) => {
-                let records = ewma(self.settings).analyze(&self.readings);
-                let signals = |r: Vec<_>| {
-                    points(
-                        r.iter()
-                            .map(|r: &crate::overbrindle::EwmaResult| (r.signal, r.index)),
-                    )
-                };
-                records.map(signals)
-            }
-        };
-        let found = found.map_err(|refusal| refusal.number);
-        let same = match due {
-            Err(ROOM) => true,
-            Err(number) => found == Err(*number),
-            Ok(answer) => found.as_ref() == Ok(&answer.points),
-        };
-        match same {
-            true => Ok(()),
-            false => Err(format!("the wrapper has {found:?}")),
-        }
+/// The first refusal, and those whose conditions are met besides.
+fn told(met: &[u32]) -> String {
+    let others: Vec<String> = met[1..].iter().map(u32::to_string).collect();
+    match others.is_empty() {
+        true => format!("refusal {}", met[0]),
+        false => format!("refusal {} before {}", met[0], others.join(" and ")),
     }
 }
 
-/// The indices of the records that signal.
-fn points(records: impl Iterator<Item = (bool, usize)>) -> Vec<usize> {
-    let signals = records.filter(|(signal, _)| *signal);
-    signals.map(|(_, index)| index).collect()
+/// What a copy of `ewma.rs` with document 01's powers makes of a series.
+fn ruled_answer(settings: &Settings, readings: &[f64]) -> Option<Answer> {
+    let [target, sigma, lambda, l_factor] = settings.values;
+    let chart = match settings.by_new {
+        true => ewma_ruled::Ewma::new(target, sigma)?,
+        false => ewma_ruled::Ewma::with_params(target, sigma, lambda, l_factor)?,
+    };
+    let record = |r: ewma_ruled::EwmaResult| Record {
+        values: vec![r.ewma, r.ucl, r.lcl],
+        signal: r.signal,
+        index: r.index,
+    };
+    Some(Answer {
+        records: chart.analyze(readings).into_iter().map(record).collect(),
+        points: chart.signal_points(readings),
+    })
+}
+
+/// Whether the platform's power gives this record other limits than document 01's. It may move the limits
+/// and, where it does, the signal; nothing where more than that differs.
+fn limits_moved(by_rule: &Record, by_platform: &Record) -> Option<bool> {
+    let bits = |record: &Record| -> Vec<u64> {
+        record.values.iter().map(|&value| pattern(value)).collect()
+    };
+    let (ruled, platform) = (bits(by_rule), bits(by_platform));
+    let moved = ruled[1..] != platform[1..];
+    let same_statistic = ruled[0] == platform[0] && by_rule.index == by_platform.index;
+    let same_signal = moved || by_rule.signal == by_platform.signal;
+    (same_statistic && same_signal).then_some(moved)
+}
+
+/// Whether the unmodified Rust differs from the copy with document 01's powers, which may only be in limits
+/// and by them in signals: there are as many records, and the same points where no limit differs.
+fn differ_by_powers(unmodified: &Answer, ruled: &Answer) -> Result<bool, String> {
+    let pairs = ruled.records.iter().zip(&unmodified.records);
+    let moved: Option<Vec<bool>> = pairs.map(|(r, u)| limits_moved(r, u)).collect();
+    let differ = moved.map(|moved| moved.contains(&true));
+    let as_many = ruled.records.len() == unmodified.records.len();
+    let same_points = differ == Some(true) || ruled.points == unmodified.points;
+    differ
+        .filter(|_| as_many && same_points)
+        .ok_or("the copy with document 01's powers differs by more than limits".into())
 }
 
 impl Areas {
@@ -279,13 +316,34 @@ impl Areas {
 }
 
 impl RunLength {
+    /// How the Rust makes the chart.
+    pub fn made_with(&self) -> Settings {
+        Settings {
+            by_new: self.by_new,
+            values: self.settings,
+        }
+    }
+
+    /// The refusals whose conditions the call meets, each by itself, in the order of document 01.
+    fn met(&self) -> Vec<u32> {
+        let tests = [
+            (self.side > 1, FORM),
+            (charted::cusum_chart(&self.made_with()).is_none(), CHART),
+            (!self.level.is_finite(), NON_FINITE),
+        ];
+        let met = tests.into_iter().filter(|(met, _)| *met);
+        met.map(|(_, number)| number).collect()
+    }
+
     pub fn check(&self, fault: Fault) -> Result<Outcome, String> {
-        let upper = self.side == 0;
-        let settings = Settings::with(self.settings);
-        let (number, heard) = charted::run_length_answer(&settings, self.level, upper);
-        let due = match self.side {
-            0 | 1 => (u32::from(number), heard),
-            _ => (FORM, 0),
+        let met = self.met();
+        let due = match met.first() {
+            Some(&number) => (number, 0),
+            None => {
+                let upper = self.side == 0;
+                let (_, heard) = charted::run_length_answer(&self.made_with(), self.level, upper);
+                (0, heard)
+            }
         };
         let mut said = lent::cusum_run_length(&cusum(self.settings), self.level, self.side);
         said.1 += usize::from(fault.is("run length"));
@@ -294,20 +352,39 @@ impl RunLength {
             return Err(format!("number and reading are {said:?} and not {due:?}"));
         }
         if self.side < 2 {
-            let side = [Side::Upper, Side::Lower][self.side as usize];
-            let found = cusum(self.settings).run_length(self.level, side);
-            let found = found.map_or_else(|refusal| (refusal.number, 0), |at| (0, at.unwrap_or(0)));
-            if found != due {
-                return Err(format!("the wrapper has {found:?} and not {due:?}"));
-            }
+            wrapped::run_length(self, due)?;
         }
         let outcome = match due {
             (0, 0) => "not heard".into(),
             (0, _) => "heard".into(),
-            (number, _) => format!("refusal {number}"),
+            _ => told(&met),
         };
         let named = None;
         Ok(Outcome { outcome, named })
+    }
+}
+
+/// Puts the fault that is asked for into the unmodified EWMA records, as if they came by another power: only
+/// limits, and signals by them, may differ by that.
+fn damage_unmodified(fault: Fault, unmodified: &mut Answer) {
+    let Some(last) = unmodified.records.last_mut() else {
+        return;
+    };
+    let flip = |value: &mut f64| *value = f64::from_bits(value.to_bits() ^ 1);
+    if fault.is("another signal by no power") {
+        last.signal = !last.signal;
+    }
+    if fault.is("another power and statistic") {
+        flip(&mut last.values[1]);
+        flip(&mut last.values[0]);
+    }
+    if fault.is("another power and index") {
+        flip(&mut last.values[1]);
+        last.index += 1;
+    }
+    if fault.is("another power and a record less") {
+        flip(&mut unmodified.records[0].values[1]);
+        unmodified.records.pop();
     }
 }
 
@@ -331,14 +408,38 @@ fn damage(fault: Fault, chart: &Chart, said: &mut (u32, usize), areas: &mut Area
         if fault.is("points behind") && points.len() > count {
             points[count] = 0;
         }
+        if fault.is("points beyond") {
+            *areas.points.beyond() = 0;
+        }
         return;
     }
-    let values = areas.values[chart.width() - 1].words();
+    damage_records(fault, chart, count, areas);
+}
+
+/// So many records are there.
+fn damage_records(fault: Fault, chart: &Chart, count: usize, areas: &mut Areas) {
+    if fault.is("record's first value") && count > 0 {
+        areas.values[0].words()[count - 1] ^= 1;
+    }
+    let last = &mut areas.values[chart.width() - 1];
+    let values = last.words();
     if fault.is("record bit") && count > 0 {
         values[count - 1] ^= 1;
     }
     if fault.is("record behind") && values.len() > count {
         values[count] = 0;
+    }
+    if fault.is("record beyond") {
+        *last.beyond() = 0;
+    }
+    if fault.is("record before") {
+        *last.before() = 0;
+    }
+    if fault.is("signal beyond") {
+        *areas.signal.beyond() ^= 1;
+    }
+    if fault.is("index beyond") {
+        *areas.index.beyond() = 0;
     }
     if fault.is("record signal") && count > 0 {
         areas.signal.bytes()[count - 1] ^= 1;

@@ -4,6 +4,7 @@
 use crate::calls::{Call, Lent, Settings, SLOT};
 use crate::case::Case;
 use crate::charts::{Chart, Kind, RunLength};
+use crate::edges;
 use crate::families::{self, any_settings, exhaustive, l2, normal, L2_BIC, NORMAL_BIC};
 use crate::inputs::Random;
 use crate::noises::Noise;
@@ -15,7 +16,7 @@ use crate::{charted, series::Settings as ChartSettings};
 use std::rc::Rc;
 
 /// Makes some cases of a family.
-type Drawn = fn(&mut Random) -> Vec<Case>;
+pub type Drawn = fn(&mut Random) -> Vec<Case>;
 
 /// A family, and how many of a million cases are of it.
 pub struct Family {
@@ -61,6 +62,14 @@ const DRAWN: [(&str, usize, Drawn); 13] = [
     ("pieces about 4,096 readings", 600, longest_pieces),
 ];
 
+/// Target 0 and sigma 1, and the settings that come with `new`.
+pub fn usual(kind: Kind) -> [f64; 4] {
+    match kind {
+        Kind::Cusum => [0.0, 1.0, 0.5, 5.0],
+        Kind::Ewma => [0.0, 1.0, 0.2, 3.0],
+    }
+}
+
 pub fn families() -> Vec<Family> {
     let stored = families::FAMILIES.into_iter().zip(STORED_SHARES);
     let stored = stored.map(|((name, family), share)| Family {
@@ -68,7 +77,8 @@ pub fn families() -> Vec<Family> {
         share,
         draw: Box::new(move |random| family(random).into_iter().map(search).collect()),
     });
-    let drawn = DRAWN.into_iter().map(|(name, share, draw)| Family {
+    let drawn = DRAWN.into_iter().chain(edges::EDGES);
+    let drawn = drawn.map(|(name, share, draw)| Family {
         name: name.into(),
         share,
         draw: Box::new(draw),
@@ -79,12 +89,12 @@ pub fn families() -> Vec<Family> {
         .collect()
 }
 
-fn search(call: Call) -> Case {
+pub fn search(call: Call) -> Case {
     let numbers = None;
     Case::Search(Search { call, numbers })
 }
 
-fn pick<T: Copy>(random: &mut Random, values: &[T]) -> T {
+pub fn pick<T: Copy>(random: &mut Random, values: &[T]) -> T {
     values[random.below(values.len() as u64) as usize]
 }
 
@@ -270,12 +280,12 @@ fn unknown_numbers(random: &mut Random) -> Vec<Case> {
 }
 
 fn chart_cases(random: &mut Random, kind: Kind) -> Vec<(ChartSettings, Vec<f64>)> {
-    let (settings, usual) = match kind {
-        Kind::Cusum => (series::CUSUM_SETTINGS, [0.0, 1.0, 0.5, 5.0]),
-        Kind::Ewma => (series::EWMA_SETTINGS, [0.0, 1.0, 0.2, 3.0]),
+    let settings = match kind {
+        Kind::Cusum => series::CUSUM_SETTINGS,
+        Kind::Ewma => series::EWMA_SETTINGS,
     };
     let mut cases = charted::short_cases(random, &settings);
-    cases.extend(charted::refused_cases(random, usual));
+    cases.extend(charted::refused_cases(random, usual(kind)));
     cases
 }
 
@@ -294,6 +304,7 @@ fn chart(
     }
     Chart {
         kind,
+        by_new: settings.by_new,
         settings: settings.values,
         readings: Rc::new(readings),
         points: false,
@@ -340,6 +351,7 @@ fn run_lengths(random: &mut Random) -> Vec<Case> {
             _ => u32::from(!upper),
         };
         Case::RunLength(RunLength {
+            by_new: settings.values[2..] == usual(Kind::Cusum)[2..] && random.below(2) == 0,
             settings: settings.values,
             level,
             side,

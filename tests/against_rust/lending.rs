@@ -44,6 +44,11 @@ impl Area {
         &mut self.words[MARGIN + self.size]
     }
 
+    /// The place before the first one.
+    pub fn before(&mut self) -> &mut Word {
+        &mut self.words[MARGIN - 1]
+    }
+
     pub fn floats(&mut self) -> &mut [f64] {
         let words = self.words();
         // Both have 8 bytes, and every pattern is a float.
@@ -99,6 +104,11 @@ impl Bytes {
 
     pub fn bytes(&mut self) -> &mut [u8] {
         &mut self.1[MARGIN..MARGIN + self.0.size]
+    }
+
+    /// The place after the last one.
+    pub fn beyond(&mut self) -> &mut u8 {
+        &mut self.1[MARGIN + self.0.size]
     }
 
     /// Whether the area begins with this front, and is as it was lent behind it.

@@ -16,11 +16,13 @@ mod case;
 mod charted;
 mod charts;
 mod drawn;
+mod edges;
 mod elementary;
 #[allow(dead_code)]
 #[path = "../vectors/families.rs"]
 mod families;
 mod faults;
+mod heard;
 #[allow(dead_code)]
 #[path = "../vectors/inputs.rs"]
 mod inputs;
@@ -41,6 +43,7 @@ mod searches;
 #[path = "../vectors/series.rs"]
 mod series;
 mod summaries;
+mod wrapped;
 
 use case::{Case, Lending};
 use faults::Fault;

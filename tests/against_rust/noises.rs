@@ -2,9 +2,9 @@
 
 use crate::faults::Fault;
 use crate::lending::{same_word, Area, Rest, Word};
-use crate::overbrindle::{lent, noise_variance};
+use crate::overbrindle::lent;
 use crate::rules::pattern;
-use crate::Outcome;
+use crate::{wrapped, Outcome};
 use std::rc::Rc;
 
 /// The noise variance of a channel, by way of the places from `place` on of an area of this size.
@@ -33,6 +33,9 @@ impl Noise {
         if fault.is("noise area") {
             area.words().iter_mut().for_each(|word| *word ^= 1 << 63);
         }
+        if fault.is("noise beyond") {
+            *area.beyond() = 0;
+        }
         if said != due {
             return Err(format!("the noise variance is {said:x} and not {due:x}"));
         }
@@ -41,10 +44,7 @@ impl Noise {
             after[self.place..end].fill(0);
         }
         area.compare("area", &after, Rest::AsLent, same_word)?;
-        let found = pattern(noise_variance(&self.readings));
-        if found != pattern(noise) {
-            return Err(format!("the wrapper has {found:x}"));
-        }
+        wrapped::noise(&self.readings, pattern(noise))?;
         let outcome = match end {
             Some(_) => "with room".into(),
             None => "without room".into(),

@@ -54,8 +54,17 @@ pub struct Pelt {
 }
 
 impl Pelt {
+    /// With the least minimum length that a search takes.
     pub fn new(cost: CostFunction, penalty: Penalty) -> Self {
-        let min_segment_len = 2;
+        Self::with_min_segment_len(cost, penalty, 2)
+    }
+
+    /// Settings are looked at by the search, which refuses them with 1 or 2.
+    pub fn with_min_segment_len(
+        cost: CostFunction,
+        penalty: Penalty,
+        min_segment_len: usize,
+    ) -> Self {
         Pelt {
             cost,
             penalty,
@@ -65,6 +74,11 @@ impl Pelt {
 
     pub fn detect(&self, readings: &[f64]) -> Result<Vec<usize>, Refusal> {
         self.search(false, readings, &[readings.len()])
+    }
+
+    /// A reading that is not finite is refused, with its index.
+    pub fn detect_strict(&self, readings: &[f64]) -> Result<Vec<usize>, Refusal> {
+        self.search(true, readings, &[readings.len()])
     }
 
     pub fn detect_multi(&self, channels: &[&[f64]]) -> Result<Vec<usize>, Refusal> {
@@ -195,7 +209,11 @@ pub struct CusumResult {
 
 impl Cusum {
     pub fn new(target: f64, sigma: f64) -> Self {
-        let (k, h) = (0.5, 5.0);
+        Self::with_params(target, sigma, 0.5, 5.0)
+    }
+
+    /// Settings are looked at when the chart is used, which refuses them with 11.
+    pub fn with_params(target: f64, sigma: f64, k: f64, h: f64) -> Self {
         Cusum {
             target,
             sigma,
@@ -260,7 +278,11 @@ pub struct EwmaResult {
 
 impl Ewma {
     pub fn new(target: f64, sigma: f64) -> Self {
-        let (lambda, l_factor) = (0.2, 3.0);
+        Self::with_params(target, sigma, 0.2, 3.0)
+    }
+
+    /// Settings are looked at when the chart is used, which refuses them with 11.
+    pub fn with_params(target: f64, sigma: f64, lambda: f64, l_factor: f64) -> Self {
         Ewma {
             target,
             sigma,

@@ -1,15 +1,18 @@
 //! A search: what it has to answer and to leave, by the Rust and by document 01's table of refusals, and
 //! whether it does.
 
-use crate::calls::{Answer, Call};
+use crate::calls::{Answer, Call, Lent};
 use crate::faults::Fault;
 use crate::lending::{same_word, Area, Rest, Word};
 use crate::overbrindle::lent::{self, Said};
-use crate::overbrindle::{CostFunction, Pelt, Penalty};
-use crate::Outcome;
+use crate::overbrindle::Refusal;
+use crate::{wrapped, Outcome};
 
 /// The number of the refusal of a number that names no cost or no penalty.
 const FORM: u64 = 10;
+const MIN_LEN: u64 = 2;
+const UNEQUAL: u64 = 5;
+const ROOM: u64 = 7;
 const POOL: u64 = 9;
 /// What docs/DIFFERENCES.md says of the narrowest ball.
 const NAN_RADIUS: &str = "the narrowest losing ball, where a radius is NaN";
@@ -30,35 +33,68 @@ pub struct Areas {
     pool: Area,
 }
 
+/// What the lent call has to answer, and what the safe wrapper, which meets no refusal of room or pool.
 struct Due {
     answer: Answer,
+    wrapped: Result<Vec<usize>, Refusal>,
     named: Option<&'static str>,
 }
 
 impl Due {
+    /// Of a call that is refused, or answered with no cuts before a search.
     fn of(answer: Answer) -> Self {
+        let wrapped = match answer.refusal {
+            0 => Ok(answer.cuts.clone()),
+            number => Err(Refusal {
+                number: number as u32,
+                channel: answer.channel as usize,
+                index: answer.index as usize,
+            }),
+        };
+        let named = None;
         Due {
             answer,
-            named: None,
+            wrapped,
+            named,
         }
     }
 }
 
 impl Search {
-    fn pelt(&self) -> Pelt {
-        let settings = self.call.settings;
-        Pelt {
-            cost: match settings.normal {
-                true => CostFunction::Normal,
-                false => CostFunction::L2,
-            },
-            penalty: settings.custom.map_or(Penalty::Bic, Penalty::Custom),
-            min_segment_len: settings.least() as usize,
+    fn lengths(&self) -> Vec<usize> {
+        self.call.channels().iter().map(|&n| n as usize).collect()
+    }
+
+    /// The Rust makes a search exactly where no setting is refused, and answers for several channels
+    /// exactly where their lengths are one.
+    fn check_refusal(&self, refusal: u64) -> Result<(), String> {
+        let refused = (1..=MIN_LEN).contains(&refusal);
+        let made = self.call.made();
+        if made.is_some() == refused {
+            return Err("the Rust's constructor takes other settings".into());
+        }
+        let answers = |pelt: pelt::Pelt| pelt.detect_multi(&self.call.signals()).is_some();
+        match refusal == UNEQUAL && made.is_some_and(answers) {
+            true => Err("the Rust takes channels of unequal lengths".into()),
+            false => Ok(()),
         }
     }
 
-    fn lengths(&self) -> Vec<usize> {
-        self.call.channels().iter().map(|&n| n as usize).collect()
+    /// Where only the room is refused, the wrapper answers what a call with room does.
+    fn due_to_refusal(&self, answer: Answer) -> Result<Due, String> {
+        self.check_refusal(answer.refusal)?;
+        let mut due = Due::of(answer);
+        if due.answer.refusal == ROOM {
+            let lengths = self.lengths();
+            let mut roomy = self.clone();
+            roomy.call.lent = Lent::exactly(
+                lengths.first().copied().unwrap_or(0),
+                lengths.len(),
+                usize::MAX,
+            );
+            due.wrapped = roomy.due()?.wrapped;
+        }
+        Ok(due)
     }
 
     /// The cuts of L2 searches with a custom penalty are the unmodified Rust's, all others those of the
@@ -74,8 +110,9 @@ impl Search {
         }
         let call = &self.call;
         if let Some(answer) = call.refusal() {
-            return Ok(Due::of(answer));
+            return self.due_to_refusal(answer);
         }
+        self.check_refusal(0)?;
         if call.wraps() {
             return Ok(Due::of(Answer::default()));
         }
@@ -90,8 +127,13 @@ impl Search {
                 named = Some(NAN_RADIUS);
             }
         }
+        let wrapped = Ok(found.cuts.clone());
         let answer = call.answered(found);
-        Ok(Due { answer, named })
+        Ok(Due {
+            answer,
+            wrapped,
+            named,
+        })
     }
 
     pub fn check(&self, areas: &mut Areas, fault: Fault) -> Result<Outcome, String> {
@@ -106,9 +148,7 @@ impl Search {
         if (before.iter().zip(&after)).any(|(x, y)| x.to_bits() != y.to_bits()) {
             return Err("a reading is changed".into());
         }
-        if self.numbers.is_none() {
-            self.check_wrapper(&due.answer, fault)?;
-        }
+        self.check_wrapper(&due, fault)?;
         let answer = due.answer;
         let outcome = match answer.refusal {
             0 if answer.cuts.is_empty() => "no cuts".into(),
@@ -121,59 +161,38 @@ impl Search {
         })
     }
 
+    /// The numbers of the cost and the penalty are the boundary's own, and not by way of the wrapper.
     fn ask(&self, readings: &[f64], areas: &mut Areas) -> Said {
-        let pelt = self.pelt();
-        let (cost, kind, value) = pelt.selected();
-        let (cost, kind) = self.numbers.unwrap_or((cost, kind));
+        let settings = self.call.settings;
+        let known = (settings.normal.into(), settings.custom.is_some().into());
+        let (cost, kind) = self.numbers.unwrap_or(known);
         let lent = lent::Areas {
             cuts: areas.cuts.indices(),
             floats: areas.floats.floats(),
             indices: areas.indices.indices(),
             pool: areas.pool.floats(),
         };
-        let strict = self.call.strict;
-        let selected = (cost, kind, value);
-        let lengths = self.lengths();
         lent::detect(
-            strict,
-            selected,
-            pelt.min_segment_len,
+            self.call.strict,
+            (cost, kind, settings.custom.unwrap_or(0.0)),
+            settings.least() as usize,
             readings,
-            &lengths,
+            &self.lengths(),
             lent,
         )
     }
 
-    /// The wrapper that sizes the room answers the same, but for the refusals of room and pool, which it
-    /// does not meet.
-    fn check_wrapper(&self, due: &Answer, fault: Fault) -> Result<(), String> {
+    /// The wrapper takes channels, so it can't be given lengths that don't add up, nor numbers that name
+    /// no cost or penalty.
+    fn check_wrapper(&self, due: &Due, fault: Fault) -> Result<(), String> {
         let call = &self.call;
-        let short = call.readings.len() < 64;
         let sum: u128 = call.channels().iter().map(|&n| u128::from(n)).sum();
-        let lengths_fit = sum == call.readings.len() as u128;
-        let by_room = due.refusal == 7 || due.refusal == POOL;
-        if !short || by_room || !lengths_fit {
+        if self.numbers.is_some() || sum != call.readings.len() as u128 {
             return Ok(());
         }
-        let (pelt, signals) = (self.pelt(), call.signals());
-        let found = match call.strict {
-            true => pelt.detect_multi_strict(&signals),
-            false => pelt.detect_multi(&signals),
-        };
-        let mut found = found.map_err(|refusal| {
-            let place = (refusal.channel as u64, refusal.index as u64);
-            (u64::from(refusal.number), place.0, place.1)
-        });
-        if fault.is("wrapper") {
-            found = Err((3, 0, 0));
-        }
-        let expected = match due.refusal {
-            0 => Ok(due.cuts.clone()),
-            number => Err((number, due.channel, due.index)),
-        };
-        match found == expected {
-            true => Ok(()),
-            false => Err(format!("the wrapper has {found:?} and not {expected:?}")),
+        match fault.is("wrapper") {
+            true => wrapped::search(call, &Err(wrapped::refused(3))),
+            false => wrapped::search(call, &due.wrapped),
         }
     }
 }
@@ -248,6 +267,15 @@ fn damage(fault: Fault, said: &mut Said, areas: &mut Areas, readings: &mut [f64]
     }
     if fault.is("floats beyond") {
         *areas.floats.beyond() = 0;
+    }
+    if fault.is("indices beyond") {
+        *areas.indices.beyond() = 0;
+    }
+    if fault.is("pool beyond") {
+        *areas.pool.beyond() = 0;
+    }
+    if fault.is("cuts before") {
+        *areas.cuts.before() = 0;
     }
     let cleared = said.number == 0 || said.number == 9;
     let negate = |name: &str, area: &mut Area| {

@@ -1,10 +1,10 @@
 //! Summaries of pieces: what they have to be, by the Rust's sums and costs, and whether they are.
 
 use crate::faults::Fault;
-use crate::overbrindle::{lent, piece_summary};
+use crate::overbrindle::lent;
 use crate::pieces::{Piece, PIECE};
 use crate::rules::pattern;
-use crate::Outcome;
+use crate::{wrapped, Outcome};
 
 const TOO_LONG: u32 = 6;
 const MOST_READINGS: usize = 4096;
@@ -37,15 +37,13 @@ pub fn check(piece: &Piece, fault: Fault) -> Result<Outcome, String> {
             "number, length, mean and spread are {said:x?} and not {due:x?}"
         ));
     }
-    let found = match piece_summary(&piece.readings, piece.start, piece.end) {
-        Err(refusal) => (refusal.number, 0, 0, 0),
-        Ok(s) => (0, s.length, pattern(s.mean), pattern(s.spread)),
-    };
-    if found != due {
-        return Err(format!("the wrapper has {found:x?} and not {due:x?}"));
-    }
+    wrapped::piece(piece, due)?;
     let outcome = match due.0 {
         0 => "summary".into(),
+        TOO_LONG => match piece.summary() {
+            None => "refusal 6 before 12".into(),
+            Some(_) => "refusal 6".into(),
+        },
         number => format!("refusal {number}"),
     };
     let named = None;

@@ -139,7 +139,7 @@ pub fn run_length_answer(settings: &Settings, level: f64, upper: bool) -> (u8, u
 
 /// Levels for a chart, each with whether the upper sum is asked: those that are heard after about so
 /// many readings, those next to the allowance, and the centre and the ends of the range.
-fn levels(random: &mut Random, [target, sigma, k, h]: [f64; 4]) -> Vec<(f64, bool)> {
+pub fn levels(random: &mut Random, [target, sigma, k, h]: [f64; 4]) -> Vec<(f64, bool)> {
     let mut levels = vec![(target + sigma * k, true), (target - 3.0 * sigma, false)];
     for most in [4, 60, 900, 5000] {
         let away = |readings| sigma * (k + h / (1 + readings) as f64);

@@ -1,0 +1,109 @@
+//! Demand 3, of the library's answers alone: where the run length of a level is N, the Nth of any next N
+//! finite readings at or beyond the level signals, in the records and among the signal points.
+
+use crate::charts;
+use crate::faults::Fault;
+use crate::overbrindle::{lent, Cusum};
+use crate::Outcome;
+use std::rc::Rc;
+
+/// A level, which sum is to hear it (0 the upper and 1 the lower), and a series.
+#[derive(Clone)]
+pub struct Heard {
+    pub settings: [f64; 4],
+    pub level: f64,
+    pub side: u32,
+    pub readings: Rc<Vec<f64>>,
+}
+
+impl Heard {
+    fn beyond(&self, reading: f64) -> bool {
+        match self.side {
+            0 => reading >= self.level,
+            _ => reading <= self.level,
+        }
+    }
+
+    /// The indices at which a chart has to signal that hears the level at this reading: so many finite
+    /// readings on end, up to and with this one, are at or beyond the level.
+    fn due(&self, run_length: usize) -> Vec<usize> {
+        let finite = self.readings.iter().enumerate();
+        let finite = finite.filter(|(_, reading)| reading.is_finite());
+        let (mut on_end, mut due) = (0, Vec::new());
+        for (index, &reading) in finite {
+            on_end = if self.beyond(reading) { on_end + 1 } else { 0 };
+            if on_end >= run_length {
+                due.push(index);
+            }
+        }
+        due
+    }
+
+    pub fn check(&self, fault: Fault) -> Result<Outcome, String> {
+        let named = None;
+        let chart = charts::cusum(self.settings);
+        let (number, mut run_length) = lent::cusum_run_length(&chart, self.level, self.side);
+        if number != 0 || run_length == 0 {
+            let outcome = match number {
+                0 => "not heard".into(),
+                _ => format!("refusal {number}"),
+            };
+            return Ok(Outcome { outcome, named });
+        }
+        let (mut signals, mut points) = (
+            signals(&chart, &self.readings)?,
+            points(&chart, &self.readings)?,
+        );
+        if fault.is("heard early") {
+            run_length -= 1;
+        }
+        if fault.is("unheard") {
+            signals.fill(0);
+        }
+        if fault.is("unheard point") {
+            points.clear();
+        }
+        let due = self.due(run_length);
+        for index in &due {
+            if signals[*index] != 1 || points.binary_search(index).is_err() {
+                return Err(format!(
+                    "the level is heard at reading {run_length}, and index {index} does not signal"
+                ));
+            }
+        }
+        let outcome = match due.is_empty() {
+            true => "never so many on end".into(),
+            false => "signals where it has to".into(),
+        };
+        Ok(Outcome { outcome, named })
+    }
+}
+
+/// The signals of the library's records.
+fn signals(chart: &Cusum, readings: &[f64]) -> Result<Vec<u8>, String> {
+    let n = readings.len();
+    let (mut s_upper, mut s_lower) = (vec![0.0; n], vec![0.0; n]);
+    let (mut signal, mut index) = (vec![0; n], vec![0; n]);
+    let areas = lent::CusumAreas {
+        s_upper: &mut s_upper,
+        s_lower: &mut s_lower,
+        signal: &mut signal,
+        index: &mut index,
+    };
+    match lent::cusum_analyze(chart, readings, areas) {
+        (0, count) if count == n => Ok(signal),
+        said => Err(format!("number and count are {said:?}")),
+    }
+}
+
+/// The library's signal points.
+fn points(chart: &Cusum, readings: &[f64]) -> Result<Vec<usize>, String> {
+    let mut points = vec![0; readings.len()];
+    match lent::cusum_signal_points(chart, readings, &mut points) {
+        (0, count) if count <= points.len() => {
+            points.truncate(count);
+            Ok(points)
+        }
+        said => Err(format!("number and count are {said:?}")),
+    }
+}
