@@ -1,6 +1,7 @@
 -- The two tables hold, by computation. Assumes nothing.
-use mathlib.Core.Path.{refl, sym, ap₂, _∙_}
+use mathlib.Core.Path.{_≡_, refl, sym, ap₂, _∙_}
 use mathlib.Core.List.{List, _++_, map-append}
+use lib.ListN.{length}
 use lib.Ieee.{neg, isNan, eq, ne, lt, le, size, add, sub, mul, div, ofInt}
 use Rattle.floats.specs.Numbers.{ratio}
 use Rattle.floats.specs.Finite.{abs}
@@ -36,14 +37,14 @@ use Rattle.charts.specs.Answers.{chartAnswer}
 use Rattle.cusum.specs.Chart as Cusum
 use Rattle.cusum.specs.RunLength.{heardFrom, heard, runLength}
 use Rattle.ewma.specs.Chart as Ewma
-use Rattle.marked.specs.Calls.{Call, Outcome, areasLeft, searchOutcome, writtenBy, outcome}
-use Rattle.marked.specs.Rows.{Row, Hold, sumsFrom, averagesFrom}
+use Rattle.marked.specs.Calls.{Call, Outcome, areasLeft, searchOutcome, resolvedBy, writtenBy, outcome}
+use Rattle.marked.specs.Rows.{Row, Hold, sumsFrom, averagesFrom, ballsFrom}
 use Rattle.marked.specs.Marked.{markedRows}
 use Rattle.marked.specs.Further.{functionalRows, inequalityRows, noiseRows, refusalRows, chartRows, ballRows, furtherRows}
 
 -- an outcome, opened: to unfold it is to unfold all that the line names
 opened : Call → Outcome
-unfolding outcome searchOutcome areasLeft writtenBy sumsFrom averagesFrom chartAnswer Cusum.stepOf Cusum.newOf Cusum.accepted heardFrom heard runLength Ewma.stepOf Ewma.newOf Ewma.accepted Ewma.halfWidth
+unfolding outcome searchOutcome resolvedBy areasLeft writtenBy ballsFrom sumsFrom averagesFrom chartAnswer Cusum.stepOf Cusum.newOf Cusum.accepted heardFrom heard runLength Ewma.stepOf Ewma.newOf Ewma.accepted Ewma.halfWidth
     searchTests roomTests shortRoom badPenalty shapeTests totalTo sameTo gapTo channelAt indexAt tried passed
     cutsFound cutsWith cutsBy takesFunctional functionalCuts prunedCuts penaltyValue penaltyOf bicPenalty foundSaid cutsLeft areaLeft cutsOf backFrom predecessorOf
     noiseSumTo noise spreadOf floorOf median differences differenceAt sorted insert tab
@@ -56,6 +57,11 @@ unfolding outcome searchOutcome areasLeft writtenBy sumsFrom averagesFrom chartA
 opened call = outcome call
 
 -- ---- the tables
+
+-- how many rows there are: of the marked examples P8, P9 and P13 have two each
+pub sizes : (length markedRows ≡ 16) × (length furtherRows ≡ 62)
+unfolding markedRows furtherRows functionalRows inequalityRows noiseRows refusalRows chartRows ballRows
+sizes = (refl, refl)
 
 -- P1 to P13
 pub marked : Hold markedRows

@@ -13,7 +13,7 @@ use Rattle.cusum.specs.Chart as Cusum
 use Rattle.cusum.specs.declared.Cusum.{Cusum}
 use Rattle.cusum.specs.declared.Side.the-variants.{Upper, Lower}
 use Rattle.ewma.specs.Chart as Ewma
-use Rattle.marked.specs.Rows.{Row, wholes, custom, halves, sevens, within, among, plainly, strictly, finds, runsOut, refuses, gapAt, sumsAre, averagesAre, sumsSignal, averagesSignal, sumsRefuse, averagesRefuse, hears, refusesToHear, ball, keeps}
+use Rattle.marked.specs.Rows.{Row, wholes, custom, halves, sevens, within, among, plainly, strictly, finds, runsOut, refuses, gapAt, sumsAre, averagesAre, sumsSignal, averagesSignal, sumsRefuse, averagesRefuse, hears, refusesToHear, ball, ballsFrom, keeps}
 use Rattle.marked.specs.Marked.{step, gap, sums, averages}
 
 -- four readings alike
@@ -173,18 +173,18 @@ chartRows =
 
 -- ---- the balls of a candidate, of which it keeps 64
 
--- two of them are the narrowest, at places 1 and 2
+-- two of them are the narrowest, at places 1 and 2; each is about the number of its place
 abbrev full : List Ball
-full = ball 0 (whole 5) ∷ ball 1 (whole 1) ∷ ball 2 (whole 1) ∷ (replicate 60 (ball 3 (whole 5)) ++ (ball 4 (whole 5) ∷ []))
+full = ball 0 (whole 5) ∷ ball 1 (whole 1) ∷ ball 2 (whole 1) ∷ ballsFrom 3 61
 
 unfoldable pub ballRows : List Row
 ballRows =
     -- Q60 the last ball moves into the place of the earliest narrowest one, and the 65th goes last
-    keeps (ball 5 (whole 2)) full 64 0 4 2 5
+    keeps (ball 64 (whole 2)) full (ball 0 (whole 5) ∷ ball 63 (whole 63) ∷ ball 2 (whole 1) ∷ (ballsFrom 3 60 ++ (ball 64 (whole 2) ∷ [])))
     -- Q61 a 65th as narrow as that is turned away
-    ∷ keeps (ball 5 (whole 1)) full 64 0 1 2 4
+    ∷ keeps (ball 64 (whole 1)) full full
     -- Q62 one whose radius is no number enters
-    ∷ keeps (ball 5 nan) full 64 0 4 2 5
+    ∷ keeps (ball 64 nan) full (ball 0 (whole 5) ∷ ball 63 (whole 63) ∷ ball 2 (whole 1) ∷ (ballsFrom 3 60 ++ (ball 64 nan ∷ [])))
     ∷ []
 
 unfoldable pub furtherRows : List Row
