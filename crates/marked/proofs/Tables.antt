@@ -40,7 +40,7 @@ use Rattle.ewma.specs.Chart as Ewma
 use Rattle.marked.specs.Calls.{Call, Outcome, areasLeft, searchOutcome, resolvedBy, writtenBy, outcome}
 use Rattle.marked.specs.Rows.{Row, Hold, sumsFrom, averagesFrom, ballsFrom}
 use Rattle.marked.specs.Marked.{markedRows}
-use Rattle.marked.specs.Further.{functionalRows, inequalityRows, noiseRows, refusalRows, chartRows, ballRows, furtherRows}
+use Rattle.marked.specs.Further.{functionalRows, slackRows, inequalityRows, noiseRows, refusalRows, chartRows, ballRows, furtherRows}
 
 -- an outcome, opened: to unfold it is to unfold all that the line names
 opened : Call → Outcome
@@ -59,8 +59,8 @@ opened call = outcome call
 -- ---- the tables
 
 -- how many rows there are: of the marked examples P8, P9 and P13 have two each
-pub sizes : (length markedRows ≡ 16) × (length furtherRows ≡ 62)
-unfolding markedRows furtherRows functionalRows inequalityRows noiseRows refusalRows chartRows ballRows
+pub sizes : (length markedRows ≡ 16) × (length furtherRows ≡ 69)
+unfolding markedRows furtherRows functionalRows inequalityRows noiseRows refusalRows chartRows ballRows slackRows
 sizes = (refl, refl)
 
 -- P1 to P13
@@ -97,11 +97,16 @@ ball-rows : Hold ballRows
 unfolding opened ballRows
 ball-rows = refl
 
+slack-rows : Hold slackRows
+unfolding opened slackRows
+slack-rows = refl
+
 -- all of them
 pub further : Hold furtherRows
 unfolding furtherRows
 further =
-    both functionalRows (inequalityRows ++ (noiseRows ++ (refusalRows ++ (chartRows ++ ballRows)))) functional-rows
-    (both inequalityRows (noiseRows ++ (refusalRows ++ (chartRows ++ ballRows))) inequality-rows
-    (both noiseRows (refusalRows ++ (chartRows ++ ballRows)) noise-rows
-    (both refusalRows (chartRows ++ ballRows) refusal-rows (both chartRows ballRows chart-rows ball-rows))))
+    both functionalRows (inequalityRows ++ (noiseRows ++ (refusalRows ++ (chartRows ++ (ballRows ++ slackRows))))) functional-rows
+    (both inequalityRows (noiseRows ++ (refusalRows ++ (chartRows ++ (ballRows ++ slackRows)))) inequality-rows
+    (both noiseRows (refusalRows ++ (chartRows ++ (ballRows ++ slackRows))) noise-rows
+    (both refusalRows (chartRows ++ (ballRows ++ slackRows)) refusal-rows
+    (both chartRows (ballRows ++ slackRows) chart-rows (both ballRows slackRows ball-rows slack-rows)))))

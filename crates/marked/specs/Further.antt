@@ -1,4 +1,4 @@
--- Rows of our own, Q1 to Q62: each catches a wrong program that the marked examples let pass. Definitions only.
+-- Rows of our own, Q1 to Q69: each catches a wrong program that the marked examples let pass. Definitions only.
 use Prim.Native.Nat.{_-_, _^_}
 use mathlib.Core.Bool.{true, false}
 use mathlib.Core.List.{List, [], _∷_, _++_}
@@ -13,7 +13,7 @@ use Rattle.cusum.specs.Chart as Cusum
 use Rattle.cusum.specs.declared.Cusum.{Cusum}
 use Rattle.cusum.specs.declared.Side.the-variants.{Upper, Lower}
 use Rattle.ewma.specs.Chart as Ewma
-use Rattle.marked.specs.Rows.{Row, wholes, custom, halves, sevens, within, among, plainly, strictly, finds, runsOut, refuses, gapAt, sumsAre, averagesAre, sumsSignal, averagesSignal, sumsRefuse, averagesRefuse, hears, refusesToHear, ball, ballsFrom, keeps}
+use Rattle.marked.specs.Rows.{Row, wholes, tenBillionths, custom, halves, sevens, within, among, plainly, strictly, finds, runsOut, refuses, gapAt, sumsAre, averagesAre, sumsSignal, averagesSignal, sumsRefuse, averagesRefuse, hears, refusesToHear, ball, ballsFrom, keeps}
 use Rattle.marked.specs.Marked.{step, gap, sums, averages}
 
 -- four readings alike
@@ -51,6 +51,25 @@ functionalRows =
     ∷ finds (among false L2 (custom 1) 2 (level ++ step) (4 ∷ 4 ∷ []) 3) 1 (2 ∷ 7 ∷ [])
     -- Q10 two channels ask for slots
     ∷ runsOut (among false L2 (custom 1) 2 (gap ++ gap) (4 ∷ 4 ∷ []) 2)
+    ∷ []
+
+-- ---- the slack, what is cut, and the range: readings a few billionths beside a tie
+unfoldable pub slackRows : List Row
+slackRows =
+    -- Q63 slack of no less than 1e-9
+    runsOut (plainly L2 (halves 1) 2 (tenBillionths (0 ∷ 9999999995 ∷ 9999999995 ∷ 0 ∷ [])) 2)
+    -- Q64 slack with |F(b)|, |F(a)|, |cost| and the penalty
+    ∷ runsOut (plainly L2 (halves 1) 2 (tenBillionths (39999999990 ∷ 30000000015 ∷ 30000000010 ∷ 30000000010 ∷ [])) 2)
+    -- Q65 slack with |F(a)| and the penalty
+    ∷ runsOut (plainly L2 (custom 3) 2 (tenBillionths (0 ∷ 9999999995 ∷ 19999999970 ∷ 19999999970 ∷ [])) 2)
+    -- Q66 slack of no more than 1e-9, over the length
+    ∷ finds (plainly L2 (custom 2) 2 (tenBillionths (15 ∷ []) ++ (ratio 10000000020000002 (10 ^ 16) ∷ tenBillionths (14999999995 ∷ 10000000010 ∷ []))) 2) 0 (7 ∷ 7 ∷ [])
+    -- Q67 slack over the length, and one slot
+    ∷ finds (plainly L2 (custom 12) 2 (tenBillionths (0 ∷ 0 ∷ 10 ∷ 19999999955 ∷ [])) 1) 0 (7 ∷ 7 ∷ [])
+    -- Q68 an end that lies where the ball ends is cut, and the high end also where the low one was
+    ∷ finds (plainly L2 (halves 1) 2 (tenBillionths (10 ∷ 0 ∷ 5000000000 ∷ 0 ∷ [])) 1) 0 (7 ∷ 7 ∷ [])
+    -- Q69 the penalty counts once in the slack of two channels, each of which has its own range
+    ∷ finds (among false L2 (custom 2) 2 (tenBillionths (10000000000 ∷ 9999999985 ∷ 0 ∷ 65000000025 ∷ 25000000005 ∷ 25000000000 ∷ 15000000015 ∷ 35000000035 ∷ [])) (4 ∷ 4 ∷ []) 2) 1 (2 ∷ 7 ∷ [])
     ∷ []
 
 -- ---- the inequality search, which asks for no slots
@@ -188,4 +207,4 @@ ballRows =
     ∷ []
 
 unfoldable pub furtherRows : List Row
-furtherRows = functionalRows ++ (inequalityRows ++ (noiseRows ++ (refusalRows ++ (chartRows ++ ballRows))))
+furtherRows = functionalRows ++ (inequalityRows ++ (noiseRows ++ (refusalRows ++ (chartRows ++ (ballRows ++ slackRows)))))
