@@ -2,7 +2,7 @@
 use mathlib.Core.Path.{_≡_, refl, sym, ap₂, _∙_}
 use mathlib.Core.List.{List, _++_, map-append}
 use lib.ListN.{length}
-use lib.Ieee.{neg, isNan, eq, ne, lt, le, size, add, sub, mul, div, ofInt}
+use lib.Ieee.{neg, isNan, eq, ne, lt, le, size, add, sub, mul, div, ofInt, ofBits}
 use Rattle.floats.specs.Numbers.{ratio}
 use Rattle.floats.specs.Finite.{abs}
 use Rattle.floats.specs.MaxMin.{max, min}
@@ -40,7 +40,7 @@ use Rattle.ewma.specs.Chart as Ewma
 use Rattle.marked.specs.Calls.{Call, Outcome, areasLeft, searchOutcome, resolvedBy, writtenBy, outcome}
 use Rattle.marked.specs.Rows.{Row, Hold, sumsFrom, averagesFrom, ballsFrom}
 use Rattle.marked.specs.Marked.{markedRows}
-use Rattle.marked.specs.Further.{functionalRows, slackRows, inequalityRows, noiseRows, refusalRows, chartRows, ballRows, furtherRows}
+use Rattle.marked.specs.Further.{functionalRows, slackRows, roundingRows, furtherRoundingRows, inequalityRows, noiseRows, penaltyRows, refusalRows, chartRows, ballRows, furtherRows}
 
 -- an outcome, opened: to unfold it is to unfold all that the line names
 opened : Call → Outcome
@@ -53,14 +53,14 @@ unfolding outcome searchOutcome resolvedBy areasLeft writtenBy ballsFrom sumsFro
     scanTo betterOf noneYet keptTo costTo costOf l2Cost normalCost smallestNormal segmentOf segmentAbout channelOf hasChannel part meanOf sumTo centred centredTo squaresTo
     lowestTo highestTo rangeOf max min abs ahead sqrt spanAt withSpan overChannels alongEach gap2 narrowed missed nothing restrict isDominated
     narrowestTo displace loseInside far2 inside moved cutEnds cutSpan cutBy cutTo cutLosing
-    powi powFrom ln lnScaled lnOf series ratio size isNan add sub mul div lt le eq ne neg ofInt
+    powi powFrom ln lnScaled lnOf series ratio size isNan add sub mul div lt le eq ne neg ofInt ofBits
 opened call = outcome call
 
 -- ---- the tables
 
 -- how many rows there are: of the marked examples P8, P9 and P13 have two each
-pub sizes : (length markedRows ≡ 16) × (length furtherRows ≡ 69)
-unfolding markedRows furtherRows functionalRows inequalityRows noiseRows refusalRows chartRows ballRows slackRows
+pub sizes : (length markedRows ≡ 16) × (length furtherRows ≡ 86)
+unfolding markedRows furtherRows functionalRows inequalityRows noiseRows refusalRows chartRows ballRows slackRows penaltyRows roundingRows furtherRoundingRows
 sizes = (refl, refl)
 
 -- P1 to P13
@@ -101,12 +101,28 @@ slack-rows : Hold slackRows
 unfolding opened slackRows
 slack-rows = refl
 
+penalty-rows : Hold penaltyRows
+unfolding opened penaltyRows
+penalty-rows = refl
+
+rounding-rows : Hold roundingRows
+unfolding opened roundingRows
+rounding-rows = refl
+
+further-rounding-rows : Hold furtherRoundingRows
+unfolding opened furtherRoundingRows
+further-rounding-rows = refl
+
 -- all of them
 pub further : Hold furtherRows
 unfolding furtherRows
 further =
-    both functionalRows (inequalityRows ++ (noiseRows ++ (refusalRows ++ (chartRows ++ (ballRows ++ slackRows))))) functional-rows
-    (both inequalityRows (noiseRows ++ (refusalRows ++ (chartRows ++ (ballRows ++ slackRows)))) inequality-rows
-    (both noiseRows (refusalRows ++ (chartRows ++ (ballRows ++ slackRows))) noise-rows
-    (both refusalRows (chartRows ++ (ballRows ++ slackRows)) refusal-rows
-    (both chartRows (ballRows ++ slackRows) chart-rows (both ballRows slackRows ball-rows slack-rows)))))
+    both functionalRows (inequalityRows ++ (noiseRows ++ (refusalRows ++ (chartRows ++ (ballRows ++ (slackRows ++ (penaltyRows ++ (roundingRows ++ furtherRoundingRows)))))))) functional-rows
+    (both inequalityRows (noiseRows ++ (refusalRows ++ (chartRows ++ (ballRows ++ (slackRows ++ (penaltyRows ++ (roundingRows ++ furtherRoundingRows))))))) inequality-rows
+    (both noiseRows (refusalRows ++ (chartRows ++ (ballRows ++ (slackRows ++ (penaltyRows ++ (roundingRows ++ furtherRoundingRows)))))) noise-rows
+    (both refusalRows (chartRows ++ (ballRows ++ (slackRows ++ (penaltyRows ++ (roundingRows ++ furtherRoundingRows))))) refusal-rows
+    (both chartRows (ballRows ++ (slackRows ++ (penaltyRows ++ (roundingRows ++ furtherRoundingRows)))) chart-rows
+    (both ballRows (slackRows ++ (penaltyRows ++ (roundingRows ++ furtherRoundingRows))) ball-rows
+    (both slackRows (penaltyRows ++ (roundingRows ++ furtherRoundingRows)) slack-rows
+    (both penaltyRows (roundingRows ++ furtherRoundingRows) penalty-rows
+    (both roundingRows furtherRoundingRows rounding-rows further-rounding-rows))))))))

@@ -4,7 +4,7 @@ use mathlib.Core.Path.{_≡_}
 use mathlib.Core.Bool.{Bool, true, false}
 use mathlib.Core.List.{List, [], _∷_, _++_, map}
 use lib.ListN.{length, replicate}
-use lib.Ieee.{Float}
+use lib.Ieee.{Float, binary64, ofBits}
 use Rattle.floats.specs.Numbers.{+0, whole, ratio}
 use Rattle.refusals.specs.Stated.{Stated, plain}
 use Rattle.refusals.specs.Said.{answered, refused}
@@ -38,6 +38,10 @@ wholes = map (λ n. whole n)
 -- decimals with ten places, as so many ten-billionths
 abbrev pub tenBillionths : List ℕ → List Float
 tenBillionths = map (λ n. ratio n (10 ^ 10))
+
+-- the value of a bit pattern
+abbrev pub ofPattern : ℕ → Float
+ofPattern n = ofBits binary64 n
 
 -- ---- searches
 

@@ -3,6 +3,7 @@
 //! from their standard input. Nothing here computes what a definition says.
 
 mod charts;
+mod drawn;
 mod floats;
 mod naturals;
 mod reader;
@@ -13,6 +14,7 @@ mod sums;
 mod syntax;
 mod words;
 
+pub use drawn::{drawn, Drawn, Random};
 pub use reader::Reader;
 pub use rows::{rows_of, Row};
 pub use stored::stored_cases;

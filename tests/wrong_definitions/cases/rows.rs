@@ -25,7 +25,11 @@ impl Names {
         if let Some(word) = WORDS.iter().find(|(name, ..)| *name == text) {
             return applied(Value::Word(word, Vec::new()), Vec::new());
         }
-        match text.parse() {
+        let number = match text.strip_prefix("0x") {
+            Some(digits) => u128::from_str_radix(digits, 16),
+            None => text.parse(),
+        };
+        match number {
             Ok(n) => Value::Natural(Natural::of(n)),
             Err(_) => panic!("the word {text} is none of cases/words.rs"),
         }

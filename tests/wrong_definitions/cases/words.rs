@@ -43,6 +43,9 @@ pub static WORDS: &[Word] = &[
     ("wholes", 1, |v| mapped(&v[0], whole)),
     ("ratio", 2, |v| Value::Float(ratio(&v[0], &v[1]))),
     ("tenBillionths", 1, |v| mapped(&v[0], ten_billionth)),
+    ("ofPattern", 1, |v| {
+        Value::Float(f64::from_bits(size(&v[0]) as u64))
+    }),
     ("replicate", 2, |v| {
         Value::List(vec![v[1].clone(); size(&v[0])])
     }),

@@ -8,6 +8,13 @@
 //! compare the rows of `ROOT/crates/marked/specs`, or the stored cases of `ROOT/crates/replay_*`. Each prints
 //! one line: how many there are, and behind a colon the names of the rows that differ, or the first stored
 //! case that does, at which it ends.
+//!
+//!     model drawn SEED COUNT
+//!     model answers
+//!     model shown
+//!
+//! print small searches that are drawn by a seed, about so many, a line each; and what the searches of such
+//! lines on standard input come to, without and with how a row writes them.
 
 mod admission;
 mod backtrack;
@@ -17,6 +24,7 @@ mod charts;
 mod costs;
 mod cusum;
 mod dominance;
+mod edges;
 mod elementary;
 mod ewma;
 mod extremes;
@@ -36,8 +44,10 @@ mod spans;
 mod sums;
 
 use calls::outcome;
-use cases::{rows_of, stored_cases, Case, Row};
+use cases::{rows_of, stored_cases, Case, Drawn, Random, Row};
+use edges::{about_edges, brief};
 use std::fs;
+use std::io::stdin;
 use std::ops::ControlFlow;
 use std::path::Path;
 
@@ -77,17 +87,49 @@ fn stored(root: &Path) -> (usize, Option<String>) {
     (count, first)
 }
 
+/// Prints about so many searches, those of fewer readings first.
+fn print_drawn(seed: u64, count: usize) {
+    let mut random = Random::seeded(seed);
+    let mut printed = 0;
+    while printed < count {
+        for search in about_edges(&mut random, 4 + printed * 7 / count) {
+            println!("{}", search.line());
+            printed += 1;
+        }
+    }
+}
+
+/// Answers the searches of standard input.
+fn print_answers(shown: bool) {
+    for line in stdin().lines() {
+        let search = Drawn::of_line(&line.expect("a line"));
+        let text = if shown {
+            search.text() + ": "
+        } else {
+            String::new()
+        };
+        println!("{text}{}", brief(&search.call()));
+    }
+}
+
 fn main() {
     let words: Vec<String> = std::env::args().skip(1).collect();
-    let [root, what] = &words[..] else {
-        panic!("say the repository's root, and rows or stored");
-    };
-    let root = Path::new(root);
-    if what == "rows" {
-        let rows = rows(root);
-        println!("{}: {}", rows.len(), unlike(&rows).join(" "));
-    } else {
-        let (count, first) = stored(root);
-        println!("{count}: {}", first.unwrap_or_default());
+    let words: Vec<&str> = words.iter().map(|word| &word[..]).collect();
+    match words[..] {
+        [root, "rows"] => {
+            let rows = rows(Path::new(root));
+            println!("{}: {}", rows.len(), unlike(&rows).join(" "));
+        }
+        [root, "stored"] => {
+            let (count, first) = stored(Path::new(root));
+            println!("{count}: {}", first.unwrap_or_default());
+        }
+        ["drawn", seed, count] => {
+            let numbers = [seed, count].map(|word| word.parse().expect("a number"));
+            print_drawn(numbers[0], numbers[1] as usize);
+        }
+        ["answers"] => print_answers(false),
+        ["shown"] => print_answers(true),
+        _ => panic!("say what is to be compared, drawn or answered"),
     }
 }
