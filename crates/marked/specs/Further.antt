@@ -1,4 +1,4 @@
--- Rows of our own, Q1 to Q86: each catches a wrong program that the marked examples let pass. Definitions only.
+-- Rows of our own, Q1 to Q87: each catches a wrong program that the marked examples let pass. Definitions only.
 use Prim.Native.Nat.{_-_, _*_, _^_}
 use mathlib.Core.Bool.{true, false}
 use mathlib.Core.List.{List, [], _∷_, _++_}
@@ -91,6 +91,8 @@ furtherRoundingRows =
     ∷ finds (plainly L2 (Custom (ratio 5333333349333333 (10 ^ 15))) 2 (wholes (0 ∷ 2 ∷ 2 ∷ 0 ∷ 0 ∷ [])) 1) 0 (7 ∷ 7 ∷ [])
     -- Q81 infinite squares: a radius that is no number leaves the centre; sums from index 0 up
     ∷ finds (plainly L2 Bic 2 (ratio (2 * 10 ^ 160) 1 ∷ ratio (10 ^ 160) 1 ∷ +0 ∷ +0 ∷ ratio (3121748550315992 * 10 ^ 129) 1 ∷ []) 2) 0 (7 ∷ 7 ∷ [])
+    -- Q87 the slack's terms are multiplied by 1e-9 and then divided
+    ∷ finds (plainly L2 (Custom (ratio 2 (10 ^ 8))) 2 (whole 1 ∷ neg (whole 1) ∷ +0 ∷ ratio 9275983165478489 (10 ^ 21) ∷ neg (ratio 9275983165478489 (10 ^ 21)) ∷ []) 2) 0 (7 ∷ 7 ∷ [])
     ∷ []
 
 -- ---- the inequality search, which asks for no slots
