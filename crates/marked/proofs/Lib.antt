@@ -1,2 +1,3 @@
 pub mod Contracts
+pub mod Equal
 pub mod Tables

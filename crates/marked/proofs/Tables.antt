@@ -1,7 +1,8 @@
 -- The two tables hold, by computation. Assumes nothing.
-use mathlib.Core.Path.{refl, sym, ap₂, _∙_}
+use mathlib.Core.Path.{_≡_, refl, sym, ap₂, _∙_}
 use mathlib.Core.List.{List, _++_, map-append}
-use lib.Ieee.{neg, isNan, eq, ne, lt, le, size, add, sub, mul, div, ofInt}
+use lib.ListN.{length}
+use lib.Ieee.{neg, isNan, eq, ne, lt, le, size, add, sub, mul, div, ofInt, ofBits}
 use Rattle.floats.specs.Numbers.{ratio}
 use Rattle.floats.specs.Finite.{abs}
 use Rattle.floats.specs.MaxMin.{larger, smaller}
@@ -36,14 +37,14 @@ use Rattle.charts.specs.Answers.{chartAnswer}
 use Rattle.cusum.specs.Chart as Cusum
 use Rattle.cusum.specs.RunLength.{heardFrom, heard, runLength}
 use Rattle.ewma.specs.Chart as Ewma
-use Rattle.marked.specs.Calls.{Call, Outcome, areasLeft, searchOutcome, writtenBy, outcome}
-use Rattle.marked.specs.Rows.{Row, Hold, sumsFrom, averagesFrom}
+use Rattle.marked.specs.Calls.{Call, Outcome, areasLeft, searchOutcome, resolvedBy, writtenBy, outcome}
+use Rattle.marked.specs.Rows.{Row, Hold, sumsFrom, averagesFrom, ballsFrom}
 use Rattle.marked.specs.Marked.{markedRows}
-use Rattle.marked.specs.Further.{functionalRows, inequalityRows, noiseRows, refusalRows, chartRows, ballRows, furtherRows}
+use Rattle.marked.specs.Further.{functionalRows, slackRows, roundingRows, furtherRoundingRows, inequalityRows, noiseRows, penaltyRows, refusalRows, chartRows, ballRows, furtherRows}
 
 -- an outcome, opened: to unfold it is to unfold all that the line names
 opened : Call → Outcome
-unfolding outcome searchOutcome areasLeft writtenBy sumsFrom averagesFrom chartAnswer Cusum.stepOf Cusum.newOf Cusum.accepted heardFrom heard runLength Ewma.stepOf Ewma.newOf Ewma.accepted Ewma.halfWidth
+unfolding outcome searchOutcome resolvedBy areasLeft writtenBy ballsFrom sumsFrom averagesFrom chartAnswer Cusum.stepOf Cusum.newOf Cusum.accepted heardFrom heard runLength Ewma.stepOf Ewma.newOf Ewma.accepted Ewma.halfWidth
     searchTests roomTests shortRoom badPenalty shapeTests totalTo sameTo gapTo channelAt indexAt tried passed
     cutsFound cutsWith cutsBy takesFunctional functionalCuts prunedCuts penaltyValue penaltyOf bicPenalty foundSaid cutsLeft areaLeft cutsOf backFrom predecessorOf
     noiseSumTo noise spreadOf floorOf median differences differenceAt sorted insert tab
@@ -52,10 +53,15 @@ unfolding outcome searchOutcome areasLeft writtenBy sumsFrom averagesFrom chartA
     scanTo betterOf noneYet keptTo costTo costOf l2Cost normalCost smallestNormal segmentOf segmentAbout channelOf hasChannel part meanOf sumTo centred centredTo squaresTo
     lowestTo highestTo rangeOf larger smaller abs ahead sqrt spanAt withSpan overChannels alongEach gap2 narrowed missed nothing restrict isDominated
     narrowestTo displace loseInside far2 inside moved cutEnds cutSpan cutBy cutTo cutLosing
-    powi powFrom ln lnScaled lnOf series ratio size isNan add sub mul div lt le eq ne neg ofInt
+    powi powFrom ln lnScaled lnOf series ratio size isNan add sub mul div lt le eq ne neg ofInt ofBits
 opened call = outcome call
 
 -- ---- the tables
+
+-- how many rows there are: of the marked examples P8, P9 and P13 have two each
+pub sizes : (length markedRows ≡ 16) × (length furtherRows ≡ 87)
+unfolding markedRows furtherRows functionalRows inequalityRows noiseRows refusalRows chartRows ballRows slackRows penaltyRows roundingRows furtherRoundingRows
+sizes = (refl, refl)
 
 -- P1 to P13
 pub marked : Hold markedRows
@@ -91,11 +97,32 @@ ball-rows : Hold ballRows
 unfolding opened ballRows
 ball-rows = refl
 
+slack-rows : Hold slackRows
+unfolding opened slackRows
+slack-rows = refl
+
+penalty-rows : Hold penaltyRows
+unfolding opened penaltyRows
+penalty-rows = refl
+
+rounding-rows : Hold roundingRows
+unfolding opened roundingRows
+rounding-rows = refl
+
+further-rounding-rows : Hold furtherRoundingRows
+unfolding opened furtherRoundingRows
+further-rounding-rows = refl
+
 -- all of them
 pub further : Hold furtherRows
 unfolding furtherRows
 further =
-    both functionalRows (inequalityRows ++ (noiseRows ++ (refusalRows ++ (chartRows ++ ballRows)))) functional-rows
-    (both inequalityRows (noiseRows ++ (refusalRows ++ (chartRows ++ ballRows))) inequality-rows
-    (both noiseRows (refusalRows ++ (chartRows ++ ballRows)) noise-rows
-    (both refusalRows (chartRows ++ ballRows) refusal-rows (both chartRows ballRows chart-rows ball-rows))))
+    both functionalRows (inequalityRows ++ (noiseRows ++ (refusalRows ++ (chartRows ++ (ballRows ++ (slackRows ++ (penaltyRows ++ (roundingRows ++ furtherRoundingRows)))))))) functional-rows
+    (both inequalityRows (noiseRows ++ (refusalRows ++ (chartRows ++ (ballRows ++ (slackRows ++ (penaltyRows ++ (roundingRows ++ furtherRoundingRows))))))) inequality-rows
+    (both noiseRows (refusalRows ++ (chartRows ++ (ballRows ++ (slackRows ++ (penaltyRows ++ (roundingRows ++ furtherRoundingRows)))))) noise-rows
+    (both refusalRows (chartRows ++ (ballRows ++ (slackRows ++ (penaltyRows ++ (roundingRows ++ furtherRoundingRows))))) refusal-rows
+    (both chartRows (ballRows ++ (slackRows ++ (penaltyRows ++ (roundingRows ++ furtherRoundingRows)))) chart-rows
+    (both ballRows (slackRows ++ (penaltyRows ++ (roundingRows ++ furtherRoundingRows))) ball-rows
+    (both slackRows (penaltyRows ++ (roundingRows ++ furtherRoundingRows)) slack-rows
+    (both penaltyRows (roundingRows ++ furtherRoundingRows) penalty-rows
+    (both roundingRows furtherRoundingRows rounding-rows further-rounding-rows))))))))

@@ -1,11 +1,11 @@
 -- A call of a search or a chart, and what it comes to by the definitions that the contracts cite. Definitions only.
 use Prim.Native.Nat.{ℕ, _/_}
 use mathlib.Core.Bool.{Bool}
-use mathlib.Core.List.{List, [], _∷_, map}
+use mathlib.Core.List.{List, [], _∷_}
 use mathlib.Core.Option.{Option}
 use lib.ListN.{length}
-use lib.Ieee.{Float, eq}
-use Rattle.floats.specs.Numbers.{+0, ofWhole}
+use lib.Ieee.{Float}
+use Rattle.floats.specs.Numbers.{+0}
 use Rattle.refusals.specs.Said.{Said, refused, answered, tried}
 use Rattle.refusals.specs.declared.Refusal.{Refusal}
 use Rattle.readings.specs.Shape.{firstLength}
@@ -19,12 +19,10 @@ use Rattle.cusum.specs.declared.Side.{Side}
 use Rattle.ewma.specs.Chart as Ewma
 use Rattle.ewma.specs.declared.Ewma.{Ewma}
 use Rattle.ewma.specs.declared.EwmaResult.{EwmaResult}
-use Rattle.candidate.specs.Boxes.{at}
-use Rattle.candidate.specs.Balls.{ballAt}
 use Rattle.candidate.specs.declared.Ball.{Ball}
 use Rattle.candidate.specs.Losses.{loseInside}
 use Rattle.admission.specs.Tests.{searchTests, passed}
-use Rattle.searches.specs.Search.{cutsFound}
+use Rattle.searches.specs.Search.{penaltyValue, cutsFound}
 use Rattle.searches.specs.Left.{foundSaid, cutsLeft, areaLeft}
 use Rattle.pelt.specs.declared.Pelt.{Pelt}
 
@@ -45,24 +43,26 @@ pub record Search : Type 0 where
   pub lengths : List ℕ
   pub areas : Areas
 
--- a search; a chart's `analyze` and `signal_points`, with what they are lent; a run length; one ball more for a candidate that loses inside these, and which ball is asked for at which place then, by the whole number that it is about
+-- a search; its penalty; a chart's `analyze` and `signal_points`, with what they are lent; a run length; one ball more for a candidate that loses inside these
 pub data Call : Type 0 where
   search : Search → Call
+  resolve : Search → Call
   cusum : Cusum → List Float → List CusumResult → Call
   cusumPoints : Cusum → List Float → List ℕ → Call
   runLength : Cusum → Float → Side → Call
   ewma : Ewma → List Float → List EwmaResult → Call
   ewmaPoints : Ewma → List Float → List ℕ → Call
-  lose : Ball → List Ball → List (ℕ × ℕ) → Call
+  lose : Ball → List Ball → Call
 
--- ---- outcomes: what is said, and what is left of what was lent; of balls their number, and whether they are those asked for
+-- ---- outcomes: what is said, and what is left of what was lent; a penalty; the balls that a candidate keeps
 pub data Outcome : Type 0 where
   searched : Said → Areas → Outcome
+  resolved : Float → Outcome
   sums : Said → List CusumResult → Outcome
   averages : Said → List EwmaResult → Outcome
   points : Said → List ℕ → Outcome
   heard : Said → Outcome
-  losing : ℕ → List Bool → Outcome
+  losing : List Ball → Outcome
 
 -- the areas that a search leaves, by the tests that come before 9 and the cuts that it finds
 unfoldable pub areasLeft : List (Bool × Refusal) → Option (List ℕ) → Areas → Areas
@@ -82,6 +82,10 @@ searchOutcome s =
     let found = cutsFound (p .cost) (p .penalty) (p .«min_segment_len») (s .run) (firstLength (s .lengths)) (length (s .lengths)) (length (s .areas .pool) / 200) in
     searched (tried tests (foundSaid found)) (areasLeft tests found (s .areas))
 
+-- the penalty that the search resolves
+unfoldable pub resolvedBy : Search → Float
+resolvedBy s = penaltyValue (s .settings .cost) (s .settings .penalty) (s .run) (firstLength (s .lengths)) (length (s .lengths))
+
 -- a refusal writes no result
 unfoldable pub writtenBy : {D : Type 0} → Said → List D → List D → List D
 writtenBy (answered values) results entry = lent results entry
@@ -89,6 +93,7 @@ writtenBy (refused reason) results entry = entry
 
 unfoldable pub outcome : Call → Outcome
 outcome (search s) = searchOutcome s
+outcome (resolve s) = resolved (resolvedBy s)
 outcome (cusum c xs entry) =
     let said = chartAnswer (Cusum.accepted c) (length xs) (length entry) (length xs ∷ []) in
     sums said (writtenBy said (Cusum.records c xs (length xs)) entry)
@@ -104,6 +109,4 @@ outcome (ewmaPoints c xs entry) =
     let found = Ewma.signalling c xs (length xs) in
     let said = chartAnswer (Ewma.accepted c) (length xs) (length entry) (length found ∷ []) in
     points said (writtenBy said found entry)
-outcome (lose b balls asked) =
-    let left = loseInside b balls in
-    losing (length left) (map (λ (q : ℕ × ℕ). eq (at (ballAt left (q .0) .centre) 0) (ofWhole (q .1))) asked)
+outcome (lose b balls) = losing (loseInside b balls)

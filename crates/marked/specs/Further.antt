@@ -1,5 +1,5 @@
--- Rows of our own, Q1 to Q62: each catches a wrong program that the marked examples let pass. Definitions only.
-use Prim.Native.Nat.{_-_, _^_}
+-- Rows of our own, Q1 to Q87: each catches a wrong program that the marked examples let pass. Definitions only.
+use Prim.Native.Nat.{_-_, _*_, _^_}
 use mathlib.Core.Bool.{true, false}
 use mathlib.Core.List.{List, [], _∷_, _++_}
 use lib.ListN.{replicate}
@@ -13,7 +13,7 @@ use Rattle.cusum.specs.Chart as Cusum
 use Rattle.cusum.specs.declared.Cusum.{Cusum}
 use Rattle.cusum.specs.declared.Side.the-variants.{Upper, Lower}
 use Rattle.ewma.specs.Chart as Ewma
-use Rattle.marked.specs.Rows.{Row, wholes, custom, halves, sevens, within, among, plainly, strictly, finds, runsOut, refuses, gapAt, sumsAre, averagesAre, sumsSignal, averagesSignal, sumsRefuse, averagesRefuse, hears, refusesToHear, ball, keeps}
+use Rattle.marked.specs.Rows.{Row, wholes, tenBillionths, ofPattern, custom, halves, sevens, within, among, plainly, strictly, finds, runsOut, refuses, resolves, gapAt, sumsAre, averagesAre, sumsSignal, averagesSignal, sumsRefuse, averagesRefuse, hears, refusesToHear, ball, ballsFrom, keeps}
 use Rattle.marked.specs.Marked.{step, gap, sums, averages}
 
 -- four readings alike
@@ -53,6 +53,48 @@ functionalRows =
     ∷ runsOut (among false L2 (custom 1) 2 (gap ++ gap) (4 ∷ 4 ∷ []) 2)
     ∷ []
 
+-- ---- the slack, what is cut, and the range: readings a few billionths beside a tie
+unfoldable pub slackRows : List Row
+slackRows =
+    -- Q63 slack of no less than 1e-9
+    runsOut (plainly L2 (halves 1) 2 (tenBillionths (0 ∷ 9999999995 ∷ 9999999995 ∷ 0 ∷ [])) 2)
+    -- Q64 slack with |F(b)|, |F(a)|, |cost| and the penalty
+    ∷ runsOut (plainly L2 (halves 1) 2 (tenBillionths (39999999990 ∷ 30000000015 ∷ 30000000010 ∷ 30000000010 ∷ [])) 2)
+    -- Q65 slack with |F(a)| and the penalty
+    ∷ runsOut (plainly L2 (custom 3) 2 (tenBillionths (0 ∷ 9999999995 ∷ 19999999970 ∷ 19999999970 ∷ [])) 2)
+    -- Q66 slack of no more than 1e-9, over the length
+    ∷ finds (plainly L2 (custom 2) 2 (tenBillionths (15 ∷ []) ++ (ratio 10000000020000002 (10 ^ 16) ∷ tenBillionths (14999999995 ∷ 10000000010 ∷ []))) 2) 0 (7 ∷ 7 ∷ [])
+    -- Q67 slack over the length, and one slot
+    ∷ finds (plainly L2 (custom 12) 2 (tenBillionths (0 ∷ 0 ∷ 10 ∷ 19999999955 ∷ [])) 1) 0 (7 ∷ 7 ∷ [])
+    -- Q68 an end that lies where the ball ends is cut, and the high end also where the low one was
+    ∷ finds (plainly L2 (halves 1) 2 (tenBillionths (10 ∷ 0 ∷ 5000000000 ∷ 0 ∷ [])) 1) 0 (7 ∷ 7 ∷ [])
+    -- Q69 the penalty counts once in the slack of two channels, each of which has its own range
+    ∷ finds (among false L2 (custom 2) 2 (tenBillionths (10000000000 ∷ 9999999985 ∷ 0 ∷ 65000000025 ∷ 25000000005 ∷ 25000000000 ∷ 15000000015 ∷ 35000000035 ∷ [])) (4 ∷ 4 ∷ []) 2) 1 (2 ∷ 7 ∷ [])
+    ∷ []
+
+-- ---- readings and penalties at which one rounding decides
+unfoldable pub roundingRows : List Row
+roundingRows =
+    -- Q76 F(b) less F(a), and then the cost; an outer ball with slack; the farther end; what the other channel is far is taken off
+    runsOut (among false L2 Bic 2 (wholes (5 ∷ 3 ∷ 3 ∷ 1 ∷ 4 ∷ []) ++ (ratio 2942220647384096 (10 ^ 15) ∷ wholes (3 ∷ 5 ∷ []))) (4 ∷ 4 ∷ []) 2)
+    -- Q77 a ball of one point, and one that only touches the box, leave something; slack with the magnitude of F(b); the most slots of all steps
+    ∷ runsOut (plainly L2 (Custom (ratio 5 (10 ^ 324))) 2 (wholes (0 ∷ 0 ∷ 0 ∷ 1 ∷ 1 ∷ [])) 2)
+    -- Q78 the order of the balls; dominated along the second channel
+    ∷ finds (among false L2 Bic 2 (wholes (0 ∷ 0 ∷ 1 ∷ 0 ∷ []) ++ (ratio 10257686629144716 (10 ^ 16) ∷ ratio 1 2 ∷ wholes (0 ∷ 1 ∷ []))) (4 ∷ 4 ∷ []) 2) 0 (7 ∷ 7 ∷ [])
+    ∷ []
+
+unfoldable pub furtherRoundingRows : List Row
+furtherRoundingRows =
+    -- Q79 the gap to the high end; the gap of the other channel is taken off; F(tau) and the cost, and then the penalty
+    finds (among false L2 Bic 2 (ratio 912018162272217 (10 ^ 15) ∷ wholes (1 ∷ 2 ∷ 1 ∷ 3 ∷ 4 ∷ 0 ∷ 4 ∷ 1 ∷ 0 ∷ [])) (5 ∷ 5 ∷ []) 2) 0 (7 ∷ 7 ∷ [])
+    -- Q80 gap and slack are divided each; length·mean·mean and not sum·mean
+    ∷ finds (plainly L2 (Custom (ratio 5333333349333333 (10 ^ 15))) 2 (wholes (0 ∷ 2 ∷ 2 ∷ 0 ∷ 0 ∷ [])) 1) 0 (7 ∷ 7 ∷ [])
+    -- Q81 infinite squares: a radius that is no number leaves the centre; sums from index 0 up
+    ∷ finds (plainly L2 Bic 2 (ratio (2 * 10 ^ 160) 1 ∷ ratio (10 ^ 160) 1 ∷ +0 ∷ +0 ∷ ratio (3121748550315992 * 10 ^ 129) 1 ∷ []) 2) 0 (7 ∷ 7 ∷ [])
+    -- Q87 the slack's terms are multiplied by 1e-9 and then divided
+    ∷ finds (plainly L2 (Custom (ratio 2 (10 ^ 8))) 2 (ofWhole 1 ∷ neg (ofWhole 1) ∷ +0 ∷ ratio 9275983165478489 (10 ^ 21) ∷ neg (ratio 9275983165478489 (10 ^ 21)) ∷ []) 2) 0 (7 ∷ 7 ∷ [])
+    ∷ []
+
 -- ---- the inequality search, which asks for no slots
 unfoldable pub inequalityRows : List Row
 inequalityRows =
@@ -70,6 +112,12 @@ inequalityRows =
     ∷ finds (among false L2 (custom 1) 2 (replicate 12 +0 ++ wholes (0 ∷ 0 ∷ 6 ∷ 6 ∷ 0 ∷ 0 ∷ [])) (6 ∷ 6 ∷ 6 ∷ []) 0) 2 (2 ∷ 4 ∷ 7 ∷ [])
     -- Q17 a custom penalty counts once for each channel
     ∷ finds (among false L2 (custom 1) 2 (level ++ wholes (0 ∷ 0 ∷ 1 ∷ 1 ∷ 0 ∷ 0 ∷ 1 ∷ 1 ∷ [])) (4 ∷ 4 ∷ 4 ∷ []) 0) 0 (7 ∷ 7 ∷ [])
+    -- Q82 the bound is F(t) and the penalty; candidates stay in their order; a variance below 0 by rounding
+    ∷ finds (plainly Normal Bic 2 (replicate 6 (ofWhole 1) ++ (ratio (1046485621772205 * 10 ^ 139) 1 ∷ +0 ∷ [])) 0) 2 (2 ∷ 6 ∷ 7 ∷ 7 ∷ [])
+    -- Q83 channel costs in channel order; the smallest normal number and not the smallest
+    ∷ finds (among false Normal (Custom (ratio 45 100)) 2 (wholes (1 ∷ 0 ∷ 0 ∷ 1 ∷ []) ++ (ratio 3788557476797047 (10 ^ 16) ∷ wholes (1 ∷ 1 ∷ 1 ∷ 1 ∷ 1 ∷ 1 ∷ 0 ∷ 1 ∷ 0 ∷ 1 ∷ []))) (5 ∷ 5 ∷ 5 ∷ []) 0) 1 (3 ∷ 7 ∷ [])
+    -- Q84 a part below F(t) and the penalty, and not a total below F(t) and two penalties
+    ∷ finds (plainly Normal (Custom (ratio 444089209850063 (10 ^ 30))) 2 (+0 ∷ ratio 1 2 ∷ ofWhole 1 ∷ +0 ∷ ofWhole 1 ∷ []) 0) 1 (3 ∷ 7 ∷ [])
     ∷ []
 
 -- ---- the noise of BIC
@@ -85,6 +133,19 @@ noiseRows =
     ∷ finds (among false L2 Bic 2 (replicate 10 +0 ++ wholes (0 ∷ 5 ∷ 0 ∷ 0 ∷ 0 ∷ [])) (5 ∷ 5 ∷ 5 ∷ []) 0) 0 (7 ∷ 7 ∷ [])
     -- Q22 NaN differences last: of 0, 1e-158, 1e-158, NaN, NaN the middle one makes a penalty above 0, and there are no slots
     ∷ runsOut (plainly L2 Bic 2 (+0 ∷ +0 ∷ ratio 1 (10 ^ 158) ∷ +0 ∷ nan ∷ +0 ∷ []) 0)
+    ∷ []
+
+-- ---- the penalty of BIC
+unfoldable pub penaltyRows : List Row
+penaltyRows =
+    -- Q72 NaN differences last, also where they come first
+    runsOut (plainly L2 Bic 2 (+0 ∷ nan ∷ +0 ∷ ratio 1 (10 ^ 158) ∷ +0 ∷ +0 ∷ []) 0)
+    -- Q73 one division, by 0.6745 times the root of 2; three variances, added in the channels' order
+    ∷ resolves (among false L2 Bic 2 (wholes (0 ∷ 1 ∷ 2 ∷ 3 ∷ 0 ∷ 5 ∷ 10 ∷ 15 ∷ 0 ∷ 13 ∷ 26 ∷ 39 ∷ [])) (4 ∷ 4 ∷ 4 ∷ []) 0) (ofPattern 0x407291876c070d3b)
+    -- Q74 a floor of 1e-6, by the range of readings below 0
+    ∷ resolves (plainly L2 Bic 2 (neg (ofWhole 8) ∷ neg (ofWhole 8) ∷ neg (ofWhole 8) ∷ neg (ofWhole 16) ∷ []) 0) (ofPattern 0x3dd8635094a5800a)
+    -- Q75 two readings have noise
+    ∷ resolves (plainly L2 Bic 2 (wholes (0 ∷ 1 ∷ [])) 0) (ofPattern 0x3fe86087c645a5b8)
     ∷ []
 
 -- ---- channels and refusals before 9
@@ -173,19 +234,28 @@ chartRows =
 
 -- ---- the balls of a candidate, of which it keeps 64
 
--- two of them are the narrowest, at places 1 and 2
+-- two of them are the narrowest, at places 1 and 2, and one is as wide as none; each is about the number of its place
 abbrev full : List Ball
-full = ball 0 (ofWhole 5) ∷ ball 1 (ofWhole 1) ∷ ball 2 (ofWhole 1) ∷ (replicate 60 (ball 3 (ofWhole 5)) ++ (ball 4 (ofWhole 5) ∷ []))
+full = ball 0 nan ∷ ball 1 (ofWhole 1) ∷ ball 2 (ofWhole 1) ∷ ballsFrom 3 61
 
 unfoldable pub ballRows : List Row
 ballRows =
     -- Q60 the last ball moves into the place of the earliest narrowest one, and the 65th goes last
-    keeps (ball 5 (ofWhole 2)) full 64 0 4 2 5
+    keeps (ball 64 (ofWhole 2)) full (ball 0 nan ∷ ball 63 (ofWhole 63) ∷ ball 2 (ofWhole 1) ∷ (ballsFrom 3 60 ++ (ball 64 (ofWhole 2) ∷ [])))
     -- Q61 a 65th as narrow as that is turned away
-    ∷ keeps (ball 5 (ofWhole 1)) full 64 0 1 2 4
-    -- Q62 one whose radius is no number enters
-    ∷ keeps (ball 5 nan) full 64 0 4 2 5
+    ∷ keeps (ball 64 (ofWhole 1)) full full
+    -- Q62 one whose radius is no number enters, and such a one is not the narrowest
+    ∷ keeps (ball 64 nan) full (ball 0 nan ∷ ball 63 (ofWhole 63) ∷ ball 2 (ofWhole 1) ∷ (ballsFrom 3 60 ++ (ball 64 nan ∷ [])))
+    -- Q70 an empty ball is not kept
+    ∷ keeps (ball 0 +0) [] []
+    -- Q71 one that is no number is
+    ∷ keeps (ball 0 nan) [] (ball 0 nan ∷ [])
+    -- Q85 a 64th is kept, whatever its radius
+    ∷ keeps (ball 64 (ofWhole 1)) (ballsFrom 1 63) (ballsFrom 1 63 ++ (ball 64 (ofWhole 1) ∷ []))
+    -- Q86 the last ball is the narrowest
+    ∷ keeps (ball 65 (ofWhole 2)) (ballsFrom 2 63 ++ (ball 1 (ofWhole 1) ∷ [])) (ballsFrom 2 63 ++ (ball 65 (ofWhole 2) ∷ []))
     ∷ []
 
 unfoldable pub furtherRows : List Row
-furtherRows = functionalRows ++ (inequalityRows ++ (noiseRows ++ (refusalRows ++ (chartRows ++ ballRows))))
+furtherRows =
+    functionalRows ++ (inequalityRows ++ (noiseRows ++ (refusalRows ++ (chartRows ++ (ballRows ++ (slackRows ++ (penaltyRows ++ (roundingRows ++ furtherRoundingRows))))))))

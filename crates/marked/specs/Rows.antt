@@ -1,10 +1,10 @@
 -- How the tables write a call and what it is to come to. Every place that is lent holds 7. Definitions only.
-use Prim.Native.Nat.{ℕ, suc, _+_, _*_, _/_}
+use Prim.Native.Nat.{ℕ, zero, suc, _+_, _*_, _/_, _^_}
 use mathlib.Core.Path.{_≡_}
 use mathlib.Core.Bool.{Bool, true, false}
 use mathlib.Core.List.{List, [], _∷_, _++_, map}
 use lib.ListN.{length, replicate}
-use lib.Ieee.{Float}
+use lib.Ieee.{Float, binary64, ofBits}
 use Rattle.floats.specs.Numbers.{+0, ofWhole, ratio}
 use Rattle.refusals.specs.Stated.{Stated, plain}
 use Rattle.refusals.specs.Said.{answered, refused}
@@ -20,7 +20,7 @@ use Rattle.ewma.specs.declared.EwmaResult.{EwmaResult}
 use Rattle.candidate.specs.Boxes.{ballOf}
 use Rattle.candidate.specs.declared.Ball.{Ball}
 use Rattle.pelt.specs.Detected.{withMinSegmentLen}
-use Rattle.marked.specs.Calls.{Areas, Search, Call, search, cusum, cusumPoints, runLength, ewma, ewmaPoints, lose, Outcome, searched, sums, averages, points, heard, losing, outcome}
+use Rattle.marked.specs.Calls.{Areas, Search, Call, search, resolve, cusum, cusumPoints, runLength, ewma, ewmaPoints, lose, Outcome, searched, resolved, sums, averages, points, heard, losing, outcome}
 
 -- a call, and what it is to come to
 pub record Row : Type 0 where
@@ -34,6 +34,14 @@ Hold rows = map (λ (r : Row). outcome (r .call)) rows ≡ map (λ (r : Row). r 
 -- whole numbers as readings
 abbrev pub wholes : List ℕ → List Float
 wholes = map (λ n. ofWhole n)
+
+-- decimals with ten places, as so many ten-billionths
+abbrev pub tenBillionths : List ℕ → List Float
+tenBillionths = map (λ n. ratio n (10 ^ 10))
+
+-- the value of a bit pattern
+abbrev pub ofPattern : ℕ → Float
+ofPattern n = ofBits binary64 n
 
 -- ---- searches
 
@@ -83,6 +91,10 @@ runsOut s = record { call = search s; expected = searched (refused (plain 9)) (c
 -- a refusal before 9: all areas are as they were
 abbrev pub refuses : Search → Stated → Row
 refuses s reason = record { call = search s; expected = searched (refused reason) (s .areas) }
+
+-- its penalty
+abbrev pub resolves : Search → Float → Row
+resolves s penalty = record { call = resolve s; expected = resolved penalty }
 
 -- 8, with the channel and the index
 abbrev pub gapAt : ℕ → ℕ → Stated
@@ -138,11 +150,15 @@ refusesToHear c level side reason = record { call = runLength c level side; expe
 
 -- ---- balls
 
--- a ball about a whole number, with this square of its radius
+-- a ball about a whole number and ten more, with this square of its radius
 abbrev pub ball : ℕ → Float → Ball
-ball centre r2 = ballOf (ofWhole centre) +0 r2
+ball centre r2 = ballOf (ofWhole centre) (ofWhole (10 + centre)) r2
 
--- how many balls a candidate keeps once it loses inside one more, and about which whole numbers those at places 0, 1, 2 and 63 are
-abbrev pub keeps : Ball → List Ball → ℕ → ℕ → ℕ → ℕ → ℕ → Row
-keeps b balls count c0 c1 c2 c63 =
-    record { call = lose b balls ((0, c0) ∷ (1, c1) ∷ (2, c2) ∷ (63, c63) ∷ []); expected = losing count (true ∷ true ∷ true ∷ true ∷ []) }
+-- so many of them, about this number and those after it, each as wide as its number
+unfoldable pub ballsFrom : ℕ → ℕ → List Ball
+ballsFrom centre zero = []
+ballsFrom centre (suc count) = ball centre (ofWhole centre) ∷ ballsFrom (suc centre) count
+
+-- the balls that a candidate keeps once it loses inside one more
+abbrev pub keeps : Ball → List Ball → List Ball → Row
+keeps b balls kept = record { call = lose b balls; expected = losing kept }

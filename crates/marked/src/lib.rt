@@ -3,5 +3,6 @@
 // lets pass; docs/PROMISES.md says which row refuses which.
 //
 // It promises that both tables hold of the definitions that the contracts of `pelt`, `cusum` and `ewma`
-// cite, each under a single statement (`proofs/Tables`: `marked`, `further`), and that whatever meets
-// such a contract says and leaves what a row does (`proofs/Contracts`).
+// cite, each under a single statement (`proofs/Tables`: `marked`, `further`) and with as many rows as
+// `sizes` says, and that whatever meets such a contract says and leaves what a row does
+// (`proofs/Contracts`).

@@ -1,0 +1,36 @@
+//! `crates/piece/specs`: Piece.
+
+use crate::costs::{l2_cost, segment_of};
+use crate::refusals::{stated, Refusal};
+use crate::sums::summed;
+use cases::{pattern, Said};
+
+struct Summary {
+    length: usize,
+    mean: f64,
+    spread: f64,
+}
+
+/// Length; mean, the centred mean plus the channel's mean; spread, the L2 cost divided by the length.
+fn summary_of(xs: &[f64], a: usize, b: usize) -> Summary {
+    let channel = summed(xs);
+    let s = segment_of(&channel, a, b);
+    Summary {
+        length: b.saturating_sub(a),
+        mean: s.sum / s.length + channel.mean,
+        spread: l2_cost(&s) / s.length,
+    }
+}
+
+/// 6 above 4,096 readings; 12 unless start < end ≤ length.
+pub fn summarised(xs: &[f64], a: usize, b: usize) -> Said {
+    if 4096 < xs.len() {
+        return Said::Refused(stated(Refusal::TooLong));
+    }
+    if !(a < b && b <= xs.len()) {
+        return Said::Refused(stated(Refusal::Piece));
+    }
+    let s = summary_of(xs, a, b);
+    let values = [s.mean, s.spread].map(|x| pattern(x) as usize);
+    Said::Answered([&[s.length], &values[..]].concat())
+}
