@@ -1,5 +1,5 @@
 // The flat run of readings and its list of channel lengths: what refusals 3, 4, 5, 6 and 8 ask of
-// them, and a channel as a part of the run. Crate `views` has one view over both.
+// them, and a channel as a part of the run. Crate `views` has the view by which callers take one.
 //
 // No function asks anything of its caller. Lengths are added exactly: a list whose sum only fits
 // after it wrapped is refused.
