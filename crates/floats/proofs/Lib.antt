@@ -3,3 +3,4 @@ pub mod Outcomes
 pub mod Examples
 pub mod Exact
 pub mod MinusZero
+pub mod WholeTimes

@@ -31,7 +31,7 @@ no-minus-zero z h e = true≢false (rw e at h)
 
 -- ---- what is rounded
 -- without a sign
-plain-round : (a c : ℕ) → minus-zero (round binary64 false a c) ≡ false
+pub plain-round : (a c : ℕ) → minus-zero (round binary64 false a c) ≡ false
 plain-round a c = go (round binary64 false a c) (λ t. round-val binary64 a c (round-under binary64 a c t))
   where
     go : (z : Float) → (T (finite z) → HasValue z false (grid binary64 a c) (2 ^ low binary64)) → minus-zero z ≡ false
@@ -41,7 +41,7 @@ plain-round a c = go (round binary64 false a c) (λ t. round-val binary64 a c (r
     go (fin s (suc m) e) v = refl
 
 -- with one, where it is as much as the smallest value
-negative-round : (a c : ℕ) → 0 < c → c ≤ a * 2 ^ low binary64 → minus-zero (round binary64 true a c) ≡ false
+pub negative-round : (a c : ℕ) → 0 < c → c ≤ a * 2 ^ low binary64 → minus-zero (round binary64 true a c) ≡ false
 unfolding round
 negative-round a c h l = go (round binary64 true a c) (round-le binary64 true a c true 1 (2 ^ low binary64) h (pow-pos (low binary64)) (ordered (2 ^ low binary64) l))
   where

@@ -16,7 +16,7 @@ use Rattle.floats.proofs.Order.Laws.{neg-anti}
 
 -- ---- the sign of what `round` returns
 -- a number that is not negative, or +0, or the positive infinity
-abbrev clear : Float → Bool
+abbrev pub clear : Float → Bool
 clear nan = false
 clear (inf s) = not s
 clear (fin s m e) = not s
@@ -50,7 +50,7 @@ units-clear f q k = go (ltb (q * 2 ^ k) (2 ^ (low f + suc (emax f))))
     go true = odd-clear (suc (prec f)) q k (low f)
     go false = tt
 
-round-clear : (f : Format) (a c : ℕ) → T (clear (round f false a c))
+pub round-clear : (f : Format) (a c : ℕ) → T (clear (round f false a c))
 round-clear f a c = rw (round-is f false a c) (units-clear f _ _)
 
 -- a negative, or -0, is at most what is positive, or +0

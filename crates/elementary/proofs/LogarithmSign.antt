@@ -1,0 +1,28 @@
+-- No logarithm is -0: the share of the power of two is none, and a sum is -0 only where both its values are. Assumes nothing.
+use Prim.Native.Nat.{ℕ, zero, suc, _-_, _^_}
+use mathlib.Core.Path.{refl}
+use mathlib.Core.Bool.{true, false}
+use lib.IntN.{ℤ}
+use lib.Ieee.{Float, nan, inf, fin, binary64, round, fits, ofInt}
+use lib.Ieee.Fits.{mul-fits, round-fits}
+use Rattle.floats.specs.Numbers.{_+ᶠ_, _*ᶠ_, _/ᶠ_, ofWhole, ratio}
+use Rattle.floats.proofs.MinusZero.{Plain, plain-add}
+use Rattle.floats.proofs.WholeTimes.{integer-times}
+use Rattle.elementary.specs.Logarithm.{ln, lnScaled, lnOf, series}
+
+-- e·0.6931471805599453 is not -0, so neither is the result
+of-plain : (e : ℤ) (s : Float) → Plain (lnOf e s)
+unfolding lnOf ratio
+of-plain e s =
+    plain-add (ofWhole 2 *ᶠ s *ᶠ series 10 (s *ᶠ s) (ofWhole 1 /ᶠ ofWhole 21))
+    (integer-times e (ratio 6931471805599453 (10 ^ 16)) (round-fits binary64 false 6931471805599453 (10 ^ 16)) (unfold round in tt))
+    (mul-fits binary64 (ofWhole 2 *ᶠ s) (series 10 (s *ᶠ s) (ofWhole 1 /ᶠ ofWhole 21)))
+
+pub ln-plain : (x : Float) → Plain (ln x)
+unfolding ln lnScaled
+ln-plain nan = record { held = unfold fits in tt; other = refl }
+ln-plain (inf true) = record { held = unfold fits in tt; other = refl }
+ln-plain (inf false) = record { held = unfold fits in tt; other = refl }
+ln-plain (fin s zero e) = record { held = unfold fits in tt; other = refl }
+ln-plain (fin true (suc m) e) = record { held = unfold fits in tt; other = refl }
+ln-plain (fin false (suc m) e) = of-plain _ _
