@@ -14,6 +14,9 @@ const MIN_LEN: u64 = 2;
 const UNEQUAL: u64 = 5;
 const ROOM: u64 = 7;
 const POOL: u64 = 9;
+/// A call that is refused for its room is asked of the wrapper, which has room, up to so many readings:
+/// searches of the longest channels take seconds in an emulator.
+const MOST_ASKED_AGAIN: usize = 512;
 /// What docs/DIFFERENCES.md says of the narrowest ball.
 const NAN_RADIUS: &str = "the narrowest losing ball, where a radius is NaN";
 
@@ -33,10 +36,11 @@ pub struct Areas {
     pool: Area,
 }
 
-/// What the lent call has to answer, and what the safe wrapper, which meets no refusal of room or pool.
+/// What the lent call has to answer, and what the safe wrapper, which meets no refusal of room or pool, if it
+/// is asked.
 struct Due {
     answer: Answer,
-    wrapped: Result<Vec<usize>, Refusal>,
+    wrapped: Option<Result<Vec<usize>, Refusal>>,
     named: Option<&'static str>,
 }
 
@@ -54,7 +58,7 @@ impl Due {
         let named = None;
         Due {
             answer,
-            wrapped,
+            wrapped: Some(wrapped),
             named,
         }
     }
@@ -84,7 +88,9 @@ impl Search {
     fn due_to_refusal(&self, answer: Answer) -> Result<Due, String> {
         self.check_refusal(answer.refusal)?;
         let mut due = Due::of(answer);
-        if due.answer.refusal == ROOM {
+        if due.answer.refusal == ROOM && self.call.readings.len() > MOST_ASKED_AGAIN {
+            due.wrapped = None;
+        } else if due.answer.refusal == ROOM {
             let lengths = self.lengths();
             let mut roomy = self.clone();
             roomy.call.lent = Lent::exactly(
@@ -127,7 +133,7 @@ impl Search {
                 named = Some(NAN_RADIUS);
             }
         }
-        let wrapped = Ok(found.cuts.clone());
+        let wrapped = Some(Ok(found.cuts.clone()));
         let answer = call.answered(found);
         Ok(Due {
             answer,
@@ -190,9 +196,10 @@ impl Search {
         if self.numbers.is_some() || sum != call.readings.len() as u128 {
             return Ok(());
         }
-        match fault.is("wrapper") {
-            true => wrapped::search(call, &Err(wrapped::refused(3))),
-            false => wrapped::search(call, &due.wrapped),
+        match &due.wrapped {
+            Some(_) if fault.is("wrapper") => wrapped::search(call, &Err(wrapped::refused(3))),
+            Some(due) => wrapped::search(call, due),
+            None => Ok(()),
         }
     }
 }
