@@ -7,7 +7,7 @@ use crate::dominance::{functional, Task};
 use crate::elementary::{ln, powi, sqrt};
 use crate::extremes::{about, range_of};
 use crate::fields::output;
-use crate::floats::{abs, finite, max, min};
+use crate::floats::{abs, finite, larger, smaller};
 use crate::noise::{lent, noise, noise_sum_to};
 use crate::piece::summarised;
 use crate::refusals::{stated, TABLE};
@@ -98,8 +98,8 @@ fn value(function: Function, x: f64, n: u64) -> f64 {
         Function::Sqrt => sqrt(x),
         Function::Powi => powi(x, n),
         Function::Ln => ln(x),
-        Function::Max => max(x, f64::from_bits(n)),
-        Function::Min => min(x, f64::from_bits(n)),
+        Function::Max => larger(x, f64::from_bits(n)),
+        Function::Min => smaller(x, f64::from_bits(n)),
         Function::Abs => abs(x),
         Function::Finite => f64::from(u8::from(finite(x))),
     }

@@ -1,6 +1,6 @@
 //! `crates/candidate/specs`: Boxes, Cuts, Compared, Losses.
 
-use crate::floats::{ahead, get, max};
+use crate::floats::{ahead, get, larger};
 use crate::spans::{cut_span, far2, gone, narrowed, Span};
 use cases::Ball;
 
@@ -53,7 +53,7 @@ fn along_each(channels: usize, step: impl Fn(usize, Span) -> Span, x: Candidate)
 
 /// The square of the distance from c to a span.
 fn gap2(s: Span, c: f64) -> f64 {
-    let gap = max(max(s.lo - c, c - s.hi), 0.0);
+    let gap = larger(larger(s.lo - c, c - s.hi), 0.0);
     gap * gap
 }
 

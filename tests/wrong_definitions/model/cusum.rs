@@ -1,6 +1,6 @@
 //! `crates/cusum/specs`: Chart, RunLength.
 
-use crate::floats::{finite, max};
+use crate::floats::{finite, larger};
 use crate::refusals::{tried, Refusal};
 use cases::{Chart, CusumResult, Said, Side};
 
@@ -64,8 +64,8 @@ fn moved(c: &Cusum, index: usize, upper: f64, lower: f64) -> CusumResult {
 /// a signal.
 fn step_of(c: &Cusum, before: CusumResult, index: usize, x: f64) -> CusumResult {
     if finite(x) {
-        let upper = max(before.s_upper + score(c, x) - c.k, 0.0);
-        let lower = max(before.s_lower - score(c, x) - c.k, 0.0);
+        let upper = larger(before.s_upper + score(c, x) - c.k, 0.0);
+        let lower = larger(before.s_lower - score(c, x) - c.k, 0.0);
         moved(c, index, upper, lower)
     } else {
         CusumResult {

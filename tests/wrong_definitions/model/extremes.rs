@@ -1,6 +1,6 @@
 //! `crates/extremes/specs`: Extremes.
 
-use crate::floats::{get, max, min};
+use crate::floats::{get, larger, smaller};
 
 #[derive(Clone, Copy)]
 pub struct Range {
@@ -12,7 +12,7 @@ pub struct Range {
 fn lowest_to(xs: &[f64], i: usize) -> f64 {
     let mut lowest = f64::INFINITY;
     for place in 0..i {
-        lowest = min(lowest, get(xs, place, f64::NAN));
+        lowest = smaller(lowest, get(xs, place, f64::NAN));
     }
     lowest
 }
@@ -21,7 +21,7 @@ fn lowest_to(xs: &[f64], i: usize) -> f64 {
 fn highest_to(xs: &[f64], i: usize) -> f64 {
     let mut highest = f64::NEG_INFINITY;
     for place in 0..i {
-        highest = max(highest, get(xs, place, f64::NAN));
+        highest = larger(highest, get(xs, place, f64::NAN));
     }
     highest
 }

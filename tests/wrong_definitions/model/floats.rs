@@ -16,7 +16,7 @@ pub fn get<T: Copy>(xs: &[T], i: usize, other: T) -> T {
 // ---- MaxMin
 
 #[allow(clippy::eq_op)]
-pub fn max(x: f64, y: f64) -> f64 {
+pub fn larger(x: f64, y: f64) -> f64 {
     if x < y {
         y
     } else if x != x {
@@ -27,7 +27,7 @@ pub fn max(x: f64, y: f64) -> f64 {
 }
 
 #[allow(clippy::eq_op)]
-pub fn min(x: f64, y: f64) -> f64 {
+pub fn smaller(x: f64, y: f64) -> f64 {
     if y < x {
         y
     } else if x != x {

@@ -1,7 +1,7 @@
 //! `crates/noise/specs`: Noise.
 
 use crate::extremes::{range_of, Range};
-use crate::floats::max;
+use crate::floats::larger;
 use crate::medians::{differences, median};
 use crate::readings::{channel_of, part, rest_of};
 
@@ -24,7 +24,7 @@ pub fn noise(xs: &[f64]) -> f64 {
     if xs.len() < 2 {
         return 0.0;
     }
-    squared(max(
+    squared(larger(
         spread_of(median(&differences(xs))),
         floor_of(range_of(xs)),
     ))

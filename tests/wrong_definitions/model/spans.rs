@@ -1,7 +1,7 @@
 //! `crates/spans/specs`: Reach, Slabs.
 
 use crate::elementary::sqrt;
-use crate::floats::{max, min};
+use crate::floats::{larger, smaller};
 
 #[derive(Clone, Copy)]
 pub struct Span {
@@ -13,10 +13,10 @@ pub struct Span {
 
 /// The part of a span that a ball reaches, where room is what the other channels leave of r2.
 pub fn narrowed(s: Span, c: f64, room: f64) -> Span {
-    let w = sqrt(max(room, 0.0));
+    let w = sqrt(larger(room, 0.0));
     Span {
-        lo: max(s.lo, c - w),
-        hi: min(s.hi, c + w),
+        lo: larger(s.lo, c - w),
+        hi: smaller(s.hi, c + w),
     }
 }
 
@@ -31,7 +31,7 @@ pub fn gone(s: Span) -> bool {
 pub fn far2(s: Span, c: f64) -> f64 {
     let low = s.lo - c;
     let high = s.hi - c;
-    max(low * low, high * high)
+    larger(low * low, high * high)
 }
 
 /// v lies from c - w to c + w.
