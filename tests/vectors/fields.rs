@@ -1,10 +1,10 @@
-//! Writes stored inputs and outputs of the program `cuts`. The crate `replay_fields` has them as its
+//! Writes stored inputs and outputs of the program `cuts`. The crate `replay_cuts` has them as its
 //! standard input. After the commands of `searches.rs`:
 //!
 //!     rustc --edition 2021 -O --extern pelt=target/libpelt.rlib \
 //!         --extern pelt_ruled=target/libpelt_ruled.rlib \
 //!         tests/vectors/fields.rs -o target/vectors_fields
-//!     target/vectors_fields > crates/replay_fields/stdin
+//!     target/vectors_fields > crates/replay_cuts/stdin
 //!
 //! The outputs are document 01's: `form.rs` reads the fields and writes the lines, `calls.rs` tries the
 //! refusals, and the cuts are the Rust's as in `searches.rs`. How many inputs of each kind there are, and

@@ -10,8 +10,8 @@ use borrow.Author.Tests.{ltb-true, ltb-false}
 use lib.Dec.{ltb}
 use lib.ListN.{length, take, drop, set, replicate, getD, length-replicate, length-drop, take-append-drop}
 use lib.Seq.{take-all}
-use Rattle.readings.specs.Parts.{part}
-use Rattle.readings.proofs.PartLaws.{push, part-suc, frame-refl, frame-set, frame-wide, framed-once}
+use Rattle.areas.specs.Parts.{part}
+use Rattle.areas.proofs.PartLaws.{push, part-suc, frame-refl, frame-set, frame-wide, framed-once}
 use Rattle.areas.specs.Cleared.{Cleared, stopOf}
 
 module _ {A : Type 0} where

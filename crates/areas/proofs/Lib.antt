@@ -1,1 +1,2 @@
 pub mod ClearedLaws
+pub mod PartLaws

@@ -5,7 +5,7 @@ use mathlib.Core.Bool.{cond}
 use mathlib.Core.List.{List}
 use lib.Dec.{ltb}
 use lib.ListN.{length, replicate}
-use Rattle.readings.specs.Parts.{part, Frame}
+use Rattle.areas.specs.Parts.{part, Frame}
 
 -- size places from a place on hold v, as far as the area has them, and the others are unchanged
 pub record Cleared {A : Type 0} (v : A) (before after : List A) (place size : ℕ) : Type 0 where

@@ -10,8 +10,8 @@ use native.Mathlib.Numerals.{add-one}
 use lib.Dec.{ltb}
 use lib.ListN.{length, getD, take, drop, length-append, List·getD-append}
 use lib.Seq.{getD-append-seam, take-at, drop-at}
-use Rattle.recurrence.specs.Predecessors.{Placed, start, later, Sound}
-use Rattle.recurrence.proofs.PredecessorLaws.{Joined, placed-before}
+use Rattle.search_rules.specs.Predecessors.{Placed, start, later, Sound}
+use Rattle.search_rules.proofs.PredecessorLaws.{Joined, placed-before}
 use Rattle.backtrack.specs.Cuts.{predecessorOf, backFrom, cutsOf, written}
 use Rattle.backtrack.specs.Backtracked.{Backtracked}
 use Rattle.backtrack.specs.Pieces.{Rising, ends, Pieces}

@@ -8,7 +8,7 @@ use native.Mathlib.Nat.{add-zero, add-suc}
 use native.Mathlib.Numerals.{add-one}
 use lib.Ieee.{Float}
 use Rattle.floats.specs.Numbers.{_+ᶠ_, _-ᶠ_}
-use Rattle.readings.proofs.PartLaws.{tab-at}
+use Rattle.areas.proofs.PartLaws.{tab-at}
 use Rattle.candidate.specs.declared.Candidate.{Candidate}
 use Rattle.candidate.specs.declared.Ball.{Ball}
 use Rattle.candidate.specs.Boxes.{Span, ballOf, spanAt, withSpan, overChannels, alongEach, gone}

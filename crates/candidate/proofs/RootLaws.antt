@@ -14,9 +14,9 @@ use lib.Ieee.Fits.{down-pos}
 use Rattle.floats.specs.Numbers.{_-ᶠ_, _<ᶠ_, +0}
 use Rattle.floats.specs.Finite.{finite}
 use Rattle.elementary.specs.Root.{sqrt}
-use Rattle.spans.proofs.SlabLaws.{ends-outside}
-use Rattle.readings.specs.Parts.{tab}
-use Rattle.readings.proofs.PartLaws.{tab-length, tab-at}
+use Rattle.candidate_sides.proofs.SlabLaws.{ends-outside}
+use Rattle.areas.specs.Parts.{tab}
+use Rattle.areas.proofs.PartLaws.{tab-length, tab-at}
 use Rattle.candidate.specs.declared.Candidate.{Candidate}
 use Rattle.candidate.specs.declared.Ball.{Ball}
 use Rattle.candidate.specs.Boxes.{Span, at, spanAt, withSpan, overChannels, alongEach}

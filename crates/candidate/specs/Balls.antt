@@ -8,11 +8,11 @@ use lib.ListN.{getD}
 use lib.Ieee.{Float, nan}
 use Rattle.floats.specs.Numbers.{_-ᶠ_, _<ᶠ_, +0}
 use Rattle.elementary.specs.Root.{sqrt}
-use Rattle.readings.specs.Parts.{tab}
+use Rattle.areas.specs.Parts.{tab}
 use Rattle.candidate.specs.declared.Ball.{Ball}
 use Rattle.candidate.specs.Boxes.{at, ballOf}
 -- the room for them
-unfoldable pub use Rattle.losing.specs.Losing.{hasRoom}
+unfoldable pub use Rattle.candidate_balls.specs.Losing.{hasRoom}
 
 -- a ball of a list
 abbrev pub ballAt : List Ball → ℕ → Ball

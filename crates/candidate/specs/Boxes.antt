@@ -10,9 +10,9 @@ use Rattle.floats.specs.MaxMin.{larger}
 use Rattle.candidate.specs.declared.Candidate.{Candidate}
 use Rattle.candidate.specs.declared.Ball.{Ball}
 -- one side: a span, what a ball reaches of it, and whether anything is left of it
-pub use Rattle.spans.specs.declared.Span.{Span}
-pub use Rattle.spans.specs.Reach.{gone}
-unfoldable pub use Rattle.spans.specs.Reach.{narrowed}
+pub use Rattle.candidate_sides.specs.declared.Span.{Span}
+pub use Rattle.candidate_sides.specs.Reach.{gone}
+unfoldable pub use Rattle.candidate_sides.specs.Reach.{narrowed}
 
 -- ---- the channels: any number of them but 1 counts as 2
 

@@ -11,7 +11,7 @@ use Rattle.candidate.specs.declared.Ball.{Ball}
 use Rattle.candidate.specs.Boxes.{at, spanAt, withSpan, overChannels, alongEach, gone}
 use Rattle.candidate.specs.Balls.{ballAt, held, hasRoom}
 -- what a ball cuts from one side
-unfoldable pub use Rattle.spans.specs.Slabs.{far2, inside, moved, cutEnds, cutSpan, cutByRoot}
+unfoldable pub use Rattle.candidate_sides.specs.Slabs.{far2, inside, moved, cutEnds, cutSpan, cutByRoot}
 
 -- ---- one ball
 

@@ -12,8 +12,8 @@ use Rattle.candidate.specs.Boxes.{at}
 use Rattle.candidate.specs.Balls.{ballAt, hasRoom}
 -- the order of radii; how many balls a candidate keeps; what one more ball does in an area
 unfoldable pub use Rattle.floats.specs.Ahead.{ahead}
-pub use Rattle.losing.specs.Losing.{losingBalls}
-unfoldable pub use Rattle.losing.specs.Losing.{secondNumber, areaWith, countWith}
+pub use Rattle.candidate_balls.specs.Losing.{losingBalls}
+unfoldable pub use Rattle.candidate_balls.specs.Losing.{secondNumber, areaWith, countWith}
 
 -- ---- the list of balls
 

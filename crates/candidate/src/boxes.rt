@@ -4,8 +4,8 @@ ghost use Rattle.candidate.specs.Boxes.{gap2, nothing, spanAt, withSpan,
 use crate::Ball;
 use crate::Candidate;
 use floats::max;
-use spans::Span;
-use spans::narrowed;
+use candidate_sides::Span;
+use candidate_sides::narrowed;
 
 // The square of the distance from c to the span.
 fn gap2(span: Span, c: f64) -> f64

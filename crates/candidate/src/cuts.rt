@@ -10,10 +10,10 @@ use crate::boxes::first;
 use crate::boxes::second;
 use crate::boxes::with_first;
 use crate::boxes::with_second;
-use losing::has_room;
-use spans::cut_by_root;
-use spans::cut_span;
-use spans::far2;
+use candidate_balls::has_room;
+use candidate_sides::cut_by_root;
+use candidate_sides::cut_span;
+use candidate_sides::far2;
 
 // By one ball on two channels.
 fn cut_by(candidate: Candidate, c: f64, d: f64, r2: f64) -> Candidate

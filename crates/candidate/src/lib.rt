@@ -5,7 +5,7 @@
 // the box and the ball that narrows it, `specs/Balls` for how the losing balls stand in an area,
 // `specs/Cuts` for what they cut from the box. That the balls of an area cut what the list of balls
 // cuts which it stands for, is said in `proofs/RootLaws`. What concerns one side of the box stands in
-// crate `spans`, the runs of the area in crate `losing`, and in crate `standing` what is asked of a
+// crate `candidate_sides`, the runs of the area in crate `candidate_balls`, and in crate `standing` what is asked of a
 // candidate that does not change its box.
 mod boxes;
 mod cuts;
@@ -24,7 +24,7 @@ pub struct Ball {
 
 impl Candidate {
     // How many of the balls in which it loses a candidate keeps.
-    pub const LOSING_BALLS: usize = losing::LOSING_BALLS;
+    pub const LOSING_BALLS: usize = candidate_balls::LOSING_BALLS;
 
     // The balls stand in an area in three runs: how far from the first the second and the third begin,
     // and how many floats they take.

@@ -1,6 +1,6 @@
 -- `Charted` as a type of plain data, for the walk. Assumes nothing.
 use denote.Enum.Laws as EL
-use Rattle.walks.proofs.Plain.{Kind, Good, kindOf}
+use Rattle.charts.proofs.Plain.{Kind, Good, kindOf}
 use Rattle.charts.proofs.Charted as Q
 use Rattle.charts.proofs.Charted.Laws as Q′
 

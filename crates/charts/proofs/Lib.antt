@@ -2,3 +2,9 @@ pub mod Answers
 pub mod Outcomes
 pub mod Loops
 pub mod ChartedKind
+pub mod Plain
+pub mod Runs
+pub mod Points
+pub mod Columns
+pub mod Walk
+pub mod ByValue

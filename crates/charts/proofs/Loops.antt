@@ -12,8 +12,8 @@ use lib.Ieee.{Float, nan}
 use Rattle.refusals.specs.Stated.{stated}
 use Rattle.refusals.specs.Said.{Said, refused, answered, tried}
 use Rattle.refusals.specs.declared.Refusal.the-variants as Refusal
-use Rattle.walks.specs.Runs.{stateAt, records, points, lent}
-use Rattle.walks.proofs.Runs.{lent-more, length-lent, points-few, written, written-lent}
+use Rattle.charts.specs.Runs.{stateAt, records, points, lent}
+use Rattle.charts.proofs.Runs.{lent-more, length-lent, points-few, written, written-lent}
 use Rattle.charts.specs.declared.Charted.{Charted}
 use Rattle.charts.specs.declared.Charted.the-variants as Charted
 use Rattle.charts.specs.declared.Signalled.the-variants as Signalled

@@ -4,7 +4,7 @@ use Prim.Native.Nat.{ℕ}
 use mathlib.Core.Bool.{Bool}
 use mathlib.Core.List.{List}
 use Rattle.floats.proofs.Outcomes.{one-outcome}
-use Rattle.walks.specs.Runs.{lent}
+use Rattle.charts.specs.Runs.{lent}
 use Rattle.charts.specs.declared.Charted.{Charted}
 use Rattle.charts.specs.declared.Signalled.{Signalled}
 use Rattle.charts.specs.Answers.{countOf}

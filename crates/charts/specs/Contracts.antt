@@ -5,7 +5,7 @@ use mathlib.Core.Bool.{Bool, _&&_, cond}
 use mathlib.Core.List.{List, [], _∷_}
 use lib.Dec.{ltb}
 use lib.ListN.{length, set}
-use Rattle.walks.specs.Runs.{lent}
+use Rattle.charts.specs.Runs.{lent}
 use Rattle.charts.specs.declared.Charted.{Charted}
 use Rattle.charts.specs.declared.Signalled.{Signalled}
 use Rattle.charts.specs.declared.Signalled.the-variants as Signalled

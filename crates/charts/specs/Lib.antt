@@ -1,2 +1,4 @@
 pub mod Answers
 pub mod Contracts
+pub mod Runs
+pub mod Among

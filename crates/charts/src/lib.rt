@@ -1,8 +1,14 @@
-// What the charts share: the index of an observation and the place on a chart, the answers, and the
-// order of a chart's refusals. What a run over a series is, and the walk of the loop that fills a lent
-// slice of records, stand in crate `walks`.
+// What the charts share: the index of an observation and the place on a chart, the order of a chart's
+// refusals, and what is proved once of every chart.
 //
-// No function asks anything of its caller. A chart's refusals are 11, 6 and 7, tried in that order.
+// No function asks anything of its caller. A chart's refusals are 11, 6 and 7, tried in that order:
+// `specs/Answers`.
+//
+// `specs/Runs` says what a run over a series is, whatever its settings, states and records are, and
+// `proofs/Walk` walks the loop that fills a lent slice of such records, for any chart whose own proof
+// cites it. What such a loop leaves is the records of the run at the front of the slice, with what the
+// slice held behind them (`proofs/Runs`), in one list or in an array for each field (`proofs/Columns`);
+// an array of a function's own may be lent to it (`proofs/ByValue`).
 ghost use mathlib.Core.Path.{_≡_};
 ghost use Rattle.charts.specs.Answers.{admittedAs, countOf, signalledAs};
 ghost use Rattle.charts.specs.Contracts.{Noted};

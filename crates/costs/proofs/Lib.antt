@@ -1,3 +1,3 @@
 pub mod CostLaws
-pub mod AreaLaws
+pub mod SummedLaws
 pub mod StartLaws

@@ -1,3 +1,3 @@
 pub mod Costs
 pub mod Penalties
-pub mod Areas
+pub mod Summed

@@ -1,13 +1,13 @@
 // What a segment of a channel costs, and the penalty of a change.
 //
 // No function asks anything of its caller. Each result is, to the bit, that of the definition which
-// its contract names: `specs/Costs` for a segment, `specs/Areas` for a segment by the sums that an area
+// its contract names: `specs/Costs` for a segment, `specs/Summed` for a segment by the sums that an area
 // holds, `specs/Penalties` for the penalty.
-mod areas;
+mod summed;
 mod penalties;
 mod segments;
 
-pub use areas::cost_of;
+pub use summed::cost_of;
 pub use penalties::resolve_penalty;
 pub use segments::l2_cost;
 pub use segments::normal_cost;

@@ -13,9 +13,9 @@ use Rattle.floats.specs.Finite.{finite}
 use Rattle.refusals.specs.Stated.{stated}
 use Rattle.refusals.specs.Said.{refused, answered, tried}
 use Rattle.refusals.specs.declared.Refusal.the-variants as Refusal
-use Rattle.walks.specs.Runs.{stateAt}
-use Rattle.walks.specs.Among.{Among}
-use Rattle.walks.proofs.Points.{among-front, signal-among}
+use Rattle.charts.specs.Runs.{stateAt}
+use Rattle.charts.specs.Among.{Among}
+use Rattle.charts.proofs.Points.{among-front, signal-among}
 use Rattle.charts.specs.declared.Charted.the-variants as Charted
 use Rattle.charts.specs.declared.Signalled.the-variants as Signalled
 use Rattle.charts.proofs.Answers.{answered-accepted}

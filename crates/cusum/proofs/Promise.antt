@@ -18,10 +18,10 @@ use Rattle.floats.proofs.Order.Zero.{above-zero}
 use Rattle.floats.proofs.Order.Laws.{le-reflexive, lt-then-le, neg-anti}
 use Rattle.floats.proofs.Order.Sums.{sub-le}
 use Rattle.floats.proofs.Order.Quotients.{div-le}
-use Rattle.walks.specs.Runs as Runs
+use Rattle.charts.specs.Runs as Runs
 use Rattle.charts.specs.declared.Observation.{Observation}
 use Rattle.charts.specs.declared.Charted.the-variants as Charted
-use Rattle.walks.proofs.Runs.{record-in}
+use Rattle.charts.proofs.Runs.{record-in}
 use Rattle.charts.proofs.Answers.{answered-accepted}
 use Rattle.cusum.specs.declared.Cusum.{Cusum}
 use Rattle.cusum.specs.declared.CusumResult.{CusumResult}

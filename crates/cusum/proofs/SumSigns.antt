@@ -12,7 +12,7 @@ use Rattle.floats.specs.Finite.{finite}
 use Rattle.floats.specs.MinusZero.{negativeZero}
 use Rattle.floats.proofs.MinusZero.{Plain, plain-is-other, plain-zero, plain-add, plain-sub, plain-max}
 use Rattle.charts.specs.declared.Observation.{Observation}
-use Rattle.walks.specs.Runs.{stateAt}
+use Rattle.charts.specs.Runs.{stateAt}
 use Rattle.cusum.specs.declared.Cusum.{Cusum}
 use Rattle.cusum.specs.declared.CusumResult.{CusumResult}
 use Rattle.cusum.specs.Chart.{score, stepOf, shownOf, startState, nextState, recordAt}

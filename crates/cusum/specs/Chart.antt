@@ -7,7 +7,7 @@ use lib.Ieee.{Float}
 use Rattle.floats.specs.Numbers.{_+ᶠ_, _-ᶠ_, _/ᶠ_, _<ᶠ_, _≤ᶠ_, +0, ofWhole, ratio}
 use Rattle.floats.specs.Finite.{finite}
 use Rattle.floats.specs.MaxMin.{larger}
-use Rattle.walks.specs.Runs as Runs
+use Rattle.charts.specs.Runs as Runs
 use Rattle.charts.specs.Contracts as Contracts
 use Rattle.charts.specs.declared.Charted.{Charted}
 use Rattle.charts.specs.declared.Signalled.{Signalled}

@@ -8,9 +8,9 @@ use lib.ListN.{length}
 use Rattle.refusals.specs.Stated.{stated}
 use Rattle.refusals.specs.Said.{refused}
 use Rattle.refusals.specs.declared.Refusal.the-variants as Refusal
-use Rattle.form.specs.Form.{requestOf}
-use Rattle.lines.specs.Lines.{text}
-use Rattle.fields.specs.Answer.{requestSaid, output}
+use Rattle.cuts_input.specs.Form.{requestOf}
+use Rattle.cuts_output.specs.Lines.{text}
+use Rattle.cuts_answer.specs.Answer.{requestSaid, output}
 
 no-request : (input : List ℕ) → 8236 < length input → requestOf input ≡ none
 unfolding requestOf

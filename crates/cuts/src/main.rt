@@ -1,6 +1,6 @@
 // The program `cuts`: tagged fields on standard input, the cuts or a refusal on standard output.
 //
-// All that it answers is `fields::answer`. It reads one byte more than an input may have, so that a
+// All that it answers is `cuts_answer::answer`. It reads one byte more than an input may have, so that a
 // longer one shows. A read that fails is never taken for the end of the input: the answer is then
 // refusal 10, as for an input that is too long (`proofs/TooLong`). What could not be read or written is
 // said on standard error.
@@ -46,7 +46,7 @@ fn read_input(input: &mut [u8]) -> usize
 fn main() {
     let mut input = [0; ROOM];
     let count = read_input(&mut input);
-    let printed = fields::answer(&input[..count]);
+    let printed = cuts_answer::answer(&input[..count]);
     let bytes = printed.bytes;
     let length = printed.length;
     if !io::write_all(STDOUT_FILENO, &bytes[..length]) {

@@ -7,8 +7,8 @@ use Rattle.cusum.specs.declared.Cusum.{Cusum}
 use Rattle.cusum.specs.Chart as Cusums
 use Rattle.ewma.specs.declared.Ewma.{Ewma}
 use Rattle.ewma.specs.Chart as Ewmas
-use Rattle.told.specs.declared.Counted.{Counted}
-use Rattle.told.specs.Told.{ToldMarks}
+use Rattle.c_answers.specs.declared.Counted.{Counted}
+use Rattle.c_answers.specs.Told.{ToldMarks}
 
 abbrev pub CusumMarks : Cusum → List Float → List ℕ → List ℕ → Counted → Type 0
 CusumMarks c xs entry exit t = ToldMarks (Cusums.accepted c) (length xs) (Cusums.signalling c xs (length xs)) entry exit t

@@ -14,10 +14,10 @@ ghost use Rattle.noise.specs.Noise.{noise, Lent};
 ghost use Rattle.piece.specs.Piece.{summarisedAs};
 ghost use Rattle.cusum.specs.Chart as Cusums;
 ghost use Rattle.ewma.specs.Chart as Ewmas;
-ghost use Rattle.told.specs.Told.{toldAs, countedAs, countedOf, pieceAs, pieceOf, runLengthOf};
-ghost use Rattle.asked.specs.Asked.{Asked};
-ghost use Rattle.columns.specs.CusumColumns.{CusumArrays};
-ghost use Rattle.columns.specs.EwmaColumns.{EwmaArrays};
+ghost use Rattle.c_answers.specs.Told.{toldAs, countedAs, countedOf, pieceAs, pieceOf, runLengthOf};
+ghost use Rattle.c_search.specs.Asked.{Asked};
+ghost use Rattle.c_charts.specs.CusumColumns.{CusumArrays};
+ghost use Rattle.c_charts.specs.EwmaColumns.{EwmaArrays};
 ghost use Rattle.desk.specs.Marks.{CusumMarks, EwmaMarks};
 use cusum::Cusum;
 use ewma::Ewma;
@@ -65,7 +65,7 @@ pub extern "C" fn overbrindle_detect_multi(
 ) -> u32
     ensures { λ r. ⌜ Asked false cost «penalty_kind» penalty «min_segment_len» (now (readings .entry)) (now (lengths .entry)) (now (cuts .entry)) (now (cuts .exit)) (now (floats .entry)) (now (floats .exit)) (now (indices .entry)) (now (indices .exit)) (now (pool .entry)) (now (pool .exit)) (toldAs r (now (count .exit)) (now (channel .exit)) (now (index .exit))) ⌝ }
 {
-    let told = asked::search(
+    let told = c_search::search(
         false,
         cost,
         penalty_kind,
@@ -103,7 +103,7 @@ pub extern "C" fn overbrindle_detect_multi_strict(
 ) -> u32
     ensures { λ r. ⌜ Asked true cost «penalty_kind» penalty «min_segment_len» (now (readings .entry)) (now (lengths .entry)) (now (cuts .entry)) (now (cuts .exit)) (now (floats .entry)) (now (floats .exit)) (now (indices .entry)) (now (indices .exit)) (now (pool .entry)) (now (pool .exit)) (toldAs r (now (count .exit)) (now (channel .exit)) (now (index .exit))) ⌝ }
 {
-    let told = asked::search(
+    let told = c_search::search(
         true,
         cost,
         penalty_kind,
@@ -135,7 +135,7 @@ pub extern "C" fn overbrindle_piece_summary(
 ) -> u32
     ensures { λ r. ⌜ pieceAs r (now (readings .exit)) (now (mean .exit)) (now (spread .exit)) ≡ pieceOf (summarisedAs (now (channel .entry)) start end) ⌝ }
 {
-    let told = told::piece(piece::summary(channel, start, end));
+    let told = c_answers::piece(piece::summary(channel, start, end));
     *readings = told.length;
     *mean = told.mean;
     *spread = told.spread;
@@ -164,7 +164,7 @@ pub extern "C" fn overbrindle_cusum_analyze(
         k,
         h,
     };
-    let told = columns::cusum_analyze(chart, data, s_upper, s_lower, signal, index);
+    let told = c_charts::cusum_analyze(chart, data, s_upper, s_lower, signal, index);
     *count = told.count;
     told.number
 }
@@ -188,7 +188,7 @@ pub extern "C" fn overbrindle_cusum_signal_points(
         k,
         h,
     };
-    let told = told::points(chart.signal_points(data, points));
+    let told = c_answers::points(chart.signal_points(data, points));
     *count = told.count;
     told.number
 }
@@ -213,7 +213,7 @@ pub extern "C" fn overbrindle_cusum_run_length(
         k,
         h,
     };
-    let told = told::run_length(chart, level, side);
+    let told = c_answers::run_length(chart, level, side);
     *reading = told.count;
     told.number
 }
@@ -241,7 +241,7 @@ pub extern "C" fn overbrindle_ewma_analyze(
         lambda,
         l_factor,
     };
-    let told = columns::ewma_analyze(chart, data, ewma, ucl, lcl, signal, index);
+    let told = c_charts::ewma_analyze(chart, data, ewma, ucl, lcl, signal, index);
     *count = told.count;
     told.number
 }
@@ -265,7 +265,7 @@ pub extern "C" fn overbrindle_ewma_signal_points(
         lambda,
         l_factor,
     };
-    let told = told::points(chart.signal_points(data, points));
+    let told = c_answers::points(chart.signal_points(data, points));
     *count = told.count;
     told.number
 }

@@ -16,12 +16,12 @@ use Rattle.floats.specs.Numbers.{_-ᶠ_, _*ᶠ_, _<ᶠ_, _≤ᶠ_}
 use Rattle.floats.proofs.Order.Fractions.{le→leq}
 use Rattle.floats.proofs.Order.Laws.{lt→le, not-lt→le, le-transitive}
 use Rattle.elementary.specs.Power.{powFrom, powi}
-use Rattle.walks.specs.Runs.{stateAt, recordAt, following}
+use Rattle.charts.specs.Runs.{stateAt, recordAt, following}
 use Rattle.charts.specs.declared.Place.{Place}
 use Rattle.charts.specs.Answers.{admittedAs, countOf}
 use Rattle.charts.proofs.Answers.{few-records}
 use Rattle.charts.proofs.Loops.{analyzed}
-use Rattle.walks.proofs.Runs.{written}
+use Rattle.charts.proofs.Runs.{written}
 use Rattle.ewma.specs.declared.Ewma.{Ewma}
 use Rattle.ewma.specs.declared.EwmaResult.{EwmaResult}
 use Rattle.ewma.specs.declared.State.{State}

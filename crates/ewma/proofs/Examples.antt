@@ -1,4 +1,4 @@
--- NaN limits, by computation; crate `marked` has the other examples. Assumes nothing.
+-- NaN limits, by computation; crate `worked_examples` has the other examples. Assumes nothing.
 use Prim.Native.Nat.{_^_}
 use mathlib.Core.Path.{_≡_, refl}
 use mathlib.Core.Bool.{Bool, false}

@@ -8,7 +8,7 @@ use Rattle.floats.specs.Numbers.{_+ᶠ_, _-ᶠ_, _*ᶠ_, _/ᶠ_, _<ᶠ_, _≤�
 use Rattle.floats.specs.Finite.{finite}
 use Rattle.elementary.specs.Root.{sqrt}
 use Rattle.elementary.specs.Power.{powi}
-use Rattle.walks.specs.Runs as Runs
+use Rattle.charts.specs.Runs as Runs
 use Rattle.charts.specs.Contracts as Contracts
 use Rattle.charts.specs.declared.Charted.{Charted}
 use Rattle.charts.specs.declared.Signalled.{Signalled}

@@ -8,7 +8,7 @@ use lib.Ieee.{Float, fin}
 use Rattle.floats.specs.Numbers.{_-ᶠ_, _*ᶠ_, _/ᶠ_, _≤ᶠ_, ofWhole}
 use Rattle.floats.specs.Finite.{finite}
 use Rattle.elementary.specs.Root.{sqrt}
-use Rattle.walks.specs.Runs as Runs
+use Rattle.charts.specs.Runs as Runs
 use Rattle.charts.specs.declared.Observation.{Observation}
 use Rattle.charts.specs.declared.Place.{Place}
 use Rattle.ewma.specs.declared.Ewma.{Ewma}

@@ -9,8 +9,8 @@ use native.Mathlib.Numerals.{add-one}
 use borrow.Author.Tests.{le-leb}
 use lib.ListN.{length}
 use lib.Ieee.{Float}
-use Rattle.readings.specs.Parts.{tab}
-use Rattle.readings.proofs.PartLaws.{tab-same}
+use Rattle.areas.specs.Parts.{tab}
+use Rattle.areas.proofs.PartLaws.{tab-same}
 use Rattle.candidate.specs.declared.Candidate.{Candidate}
 use Rattle.candidate.specs.declared.Ball.{Ball}
 use Rattle.candidate.specs.Balls.{heldAt, ballsAt, meant, hasRoom}

@@ -14,7 +14,7 @@ use Rattle.candidate.specs.Boxes.{Span}
 use Rattle.candidate.specs.Boxes.{at, spanAt, withSpan, overChannels, alongEach, gap2, narrowed, missed, nothing, restrict, gone}
 use Rattle.candidate.specs.Balls.{ballAt}
 use Rattle.candidate.specs.Cuts.{cutBy, cutTo, cutLosing}
-use Rattle.dominance.specs.Functional.{Task, rangeBox}
+use Rattle.search_rules.specs.Functional.{Task, rangeBox}
 use Rattle.functional.specs.Held.{boxAt, Wide}
 
 with-wide : (k : ℕ) (s : Span) (x : Candidate) → Wide x → Wide (withSpan k s x)

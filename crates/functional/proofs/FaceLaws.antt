@@ -8,13 +8,13 @@ use lib.ListN.{length, getD}
 use lib.Ieee.{Float, nan}
 use Rattle.floats.specs.Numbers.{_+ᶠ_, _-ᶠ_, _/ᶠ_, +0, ofWhole}
 use Rattle.sums.specs.EachChannel.{Sums}
-use Rattle.costs.specs.Areas.{segmentAt, areaCost}
+use Rattle.costs.specs.Summed.{segmentAt, areaCost}
 use Rattle.costs.specs.declared.Segment.{Segment}
 use Rattle.costs.specs.declared.CostFunction.the-variants.{L2}
-use Rattle.costs.proofs.AreaLaws.{held-segment, cost-of-run}
+use Rattle.costs.proofs.SummedLaws.{held-segment, cost-of-run}
 use Rattle.functional.specs.declared.Plan.{Plan}
-use Rattle.dominance.specs.declared.Facing.{Facing}
-use Rattle.dominance.specs.Functional.{price, centreAlong, besides, slackOf, facing}
+use Rattle.search_rules.specs.declared.Facing.{Facing}
+use Rattle.search_rules.specs.Functional.{price, centreAlong, besides, slackOf, facing}
 use Rattle.functional.specs.Held.{Room, task}
 
 pub mean-held : (run : List Float) (q : Plan) (xs : List Float) (channel place a b : ℕ) → Sums run (q .n) (q .channels) xs → channel < q .channels → place ≡ channel * (2 * (q .n + 1))

@@ -10,14 +10,14 @@ use borrow.Author.Tests.{le-ltb}
 use lib.Seq.{getD-set-same, getD-set-other}
 use lib.ListN.{length, getD, set}
 use lib.Ieee.{Float}
-use Rattle.readings.proofs.PartLaws.{frame-refl, frame-set}
+use Rattle.areas.proofs.PartLaws.{frame-refl, frame-set}
 use Rattle.candidate.specs.declared.Candidate.{Candidate}
 use Rattle.candidate.specs.declared.Ball.{Ball}
 use Rattle.candidate.specs.Boxes.{restrict}
 use Rattle.candidate.specs.Compared.{equals}
 use Rattle.standing.proofs.StayLaws.{restrict-stays}
-use Rattle.dominance.specs.declared.Facing.{Facing}
-use Rattle.dominance.specs.Functional.{outerBall}
+use Rattle.search_rules.specs.declared.Facing.{Facing}
+use Rattle.search_rules.specs.Functional.{outerBall}
 use Rattle.functional.specs.Held.{slotAt, boxAt, facingAt, ballsIn, isMarked, SameBox, narrowedAt, Remark, Remarked, Wide}
 use Rattle.functional.proofs.BoxLaws.{box-by-numbers}
 

@@ -10,14 +10,14 @@ use native.Mathlib.Numerals.{add-one}
 use lib.Seq.{getD-set-same, getD-set-other}
 use lib.ListN.{length, getD, set, length-set}
 use lib.Ieee.{Float}
-use Rattle.readings.specs.Parts.{tab, Frame}
-use Rattle.readings.proofs.PartLaws.{tab-same, tab-at, tab-more, frame-refl, frame-set, frame-trans}
+use Rattle.areas.specs.Parts.{tab, Frame}
+use Rattle.areas.proofs.PartLaws.{tab-same, tab-at, tab-more, frame-refl, frame-set, frame-trans}
 use Rattle.candidate.specs.declared.Candidate.{Candidate}
 use Rattle.candidate.specs.declared.Ball.{Ball}
 use Rattle.candidate.specs.Balls.{heldAt, ballsAt}
 use Rattle.candidate.specs.Cuts.{cutLosing, cutIn}
 use Rattle.candidate.specs.Compared.{isDominated}
-use Rattle.dominance.specs.Functional.{Living, livingAt, cutBack, joinedBy}
+use Rattle.search_rules.specs.Functional.{Living, livingAt, cutBack, joinedBy}
 use Rattle.functional.specs.Held.{slotAt, boxAt, ballFloats, putBox, Put, Balled, Balls, ballsIn, isMarked, livedAt, lived, Kept, BallsOf, Sane, SameBox, putIndices, Stored, Settled, survivorsTo, Narrowed, Wide}
 use Rattle.functional.proofs.SlotLaws.{slot-long, slot-before, slot-after, box-put, balls-beside-box, ball-in-pool}
 use Rattle.functional.proofs.BallLaws.{balls-kept, slot-cut}

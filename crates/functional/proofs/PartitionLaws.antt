@@ -10,26 +10,26 @@ use lib.Seq.{getD-set-same, getD-set-other}
 use lib.ListN.{length, getD, set, replicate, length-set}
 use lib.Ieee.{Float, neg}
 use Rattle.floats.specs.Numbers.{+0}
-use Rattle.readings.specs.Parts.{part, tab}
-use Rattle.readings.proofs.PartLaws.{part-above, store, frame-set}
+use Rattle.areas.specs.Parts.{part, tab}
+use Rattle.areas.proofs.PartLaws.{part-above, store, frame-set}
 use Rattle.areas.specs.Cleared.{Cleared}
 use Rattle.areas.proofs.ClearedLaws.{cleared-part, cleared-whole, cleared-tail}
-use Rattle.extremes.specs.declared.Range.{Range}
+use Rattle.ranges.specs.declared.Range.{Range}
 use Rattle.sums.specs.EachChannel.{RanEach}
 use Rattle.sums.proofs.ChannelLaws.{fits, sums-kept}
-use Rattle.recurrence.specs.Room.{searchFits}
-use Rattle.recurrence.proofs.RoomLaws.{and-first, and-second, Series, Roomy, fits-room, split-floats}
+use Rattle.search_rules.specs.Room.{searchFits}
+use Rattle.search_rules.proofs.RoomLaws.{and-first, and-second, Series, Roomy, fits-room, split-floats}
 use Rattle.candidate.specs.declared.Candidate.{Candidate}
 use Rattle.candidate.specs.Balls.{ballsAt}
 use Rattle.functional.specs.declared.Plan.{Plan}
-use Rattle.dominance.specs.Functional.{Task, besides, rangeAlong, rangeBox, stateAfter}
-use Rattle.dominance.specs.Partitioned.{fitsTask, taskFits, slotsSuffice, indicesAfter, Partitioned}
+use Rattle.search_rules.specs.Functional.{Task, besides, rangeAlong, rangeBox, stateAfter}
+use Rattle.search_rules.specs.Partitioned.{fitsTask, taskFits, slotsSuffice, indicesAfter, Partitioned}
 use Rattle.functional.specs.Held.{Room, task, slotAt, boxAt, ballFloats, putBox, Put, ballsIn, livedAt, lived, BallsOf, Sane, Holds, Searched, Ran}
 use Rattle.functional.proofs.SlotLaws.{slot-long, box-put}
 use Rattle.functional.proofs.BallLaws.{balls-none}
 use Rattle.functional.proofs.MarkLaws.{few-unmarked}
 use Rattle.functional.proofs.BoxLaws.{range-wide, box-by-numbers}
-use Rattle.dominance.proofs.PeakLaws.{slots-too-few}
+use Rattle.search_rules.proofs.PeakLaws.{slots-too-few}
 
 -- ---- the range
 pub range-of-task : (run : List Float) (n channels m : ℕ) (penalty : Float)

@@ -11,12 +11,12 @@ use lib.ListN.{length, getD, set, drop, length-set}
 use lib.Ieee.{Float, nan}
 use mir.Syntax.{w64}
 use mir.Val.{Fits}
-use Rattle.readings.specs.Parts.{part, Frame}
-use Rattle.readings.proofs.PartLaws.{read, store, part-front, part-back, part-length, part-at, push, part-suc, frame-refl, frame-set, frame-trans, frame-wide}
+use Rattle.areas.specs.Parts.{part, Frame}
+use Rattle.areas.proofs.PartLaws.{read, store, part-front, part-back, part-length, part-at, push, part-suc, frame-refl, frame-set, frame-trans, frame-wide}
 use Rattle.candidate.specs.declared.Candidate.{Candidate}
 use Rattle.candidate.specs.Boxes.{at}
 use Rattle.candidate.specs.Balls.{heldAt}
-use Rattle.dominance.specs.declared.Facing.{Facing}
+use Rattle.search_rules.specs.declared.Facing.{Facing}
 use Rattle.functional.specs.Held.{slotAt, boxAt, facingAt, ballFloats, putFour, putBox, putFacing, Put, Copied, Balled, Mapped}
 
 -- ---- one slot

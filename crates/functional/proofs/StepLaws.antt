@@ -9,21 +9,21 @@ use lib.Seq.{getD-set-other, ext-getD}
 use lib.ListN.{length, getD, set, length-set}
 use lib.Ieee.{Float, nan}
 use Rattle.floats.specs.Numbers.{_+ᶠ_}
-use Rattle.readings.specs.Parts.{part, Frame}
-use Rattle.readings.proofs.PartLaws.{tab-same, tab-at, tab-length, part-front, store, frame-refl, frame-set}
+use Rattle.areas.specs.Parts.{part, Frame}
+use Rattle.areas.proofs.PartLaws.{tab-same, tab-at, tab-length, part-front, store, frame-refl, frame-set}
 use Rattle.sums.specs.EachChannel.{Sums}
 use Rattle.sums.proofs.ChannelLaws.{sums-kept}
-use Rattle.recurrence.specs.declared.Best.{Best}
-use Rattle.recurrence.specs.Minimum.{betterOf, scanTo}
-use Rattle.recurrence.specs.Predecessors.{Placed, start, later}
-use Rattle.recurrence.proofs.All.{all-at}
-use Rattle.recurrence.proofs.MinimumLaws.{scan-takes}
+use Rattle.search_rules.specs.declared.Best.{Best}
+use Rattle.search_rules.specs.Minimum.{betterOf, scanTo}
+use Rattle.search_rules.specs.Predecessors.{Placed, start, later}
+use Rattle.search_rules.proofs.All.{all-at}
+use Rattle.search_rules.proofs.MinimumLaws.{scan-takes}
 use Rattle.functional.specs.declared.Plan.{Plan}
-use Rattle.dominance.specs.Functional.{Task, Living, State, price, places, bestAt, livingAt, joinOf, livingAfter, stepOf, stateAfter, functional}
+use Rattle.search_rules.specs.Functional.{Task, Living, State, price, places, bestAt, livingAt, joinOf, livingAfter, stepOf, stateAfter, functional}
 use Rattle.functional.specs.Held.{Room, task, livedAt, lived, BallsOf, Sane, AllBelow, Joins, taus, Holds, Stepped, Searched}
 use Rattle.functional.proofs.BirthLaws.{lived-long}
-use Rattle.dominance.proofs.SoundLaws.{places-length, places-at, placed-after}
-use Rattle.dominance.proofs.PeakLaws.{peak-within, slots-too-few, slots-enough}
+use Rattle.search_rules.proofs.FunctionalLaws.{places-length, places-at, placed-after}
+use Rattle.search_rules.proofs.PeakLaws.{peak-within, slots-too-few, slots-enough}
 
 -- ---- the places of the living candidates
 taus-at : (ix : List ℕ) (w count j : ℕ) → j < count → getD (taus ix w count) j 0 ≡ getD ix (w + j) 0

@@ -8,9 +8,9 @@ use lib.ListN.{length, getD, set, drop}
 use lib.Ieee.{Float, nan}
 use Rattle.floats.specs.Numbers.{_+ᶠ_, _-ᶠ_, _*ᶠ_, _/ᶠ_, +0, ofWhole, ratio}
 use Rattle.floats.specs.Finite.{abs}
-use Rattle.readings.specs.Parts.{part, tab, Frame}
+use Rattle.areas.specs.Parts.{part, tab, Frame}
 use Rattle.sums.specs.EachChannel.{Sums}
-use Rattle.recurrence.specs.Minimum.{scanTo}
+use Rattle.search_rules.specs.Minimum.{scanTo}
 use Rattle.candidate.specs.declared.Candidate.{Candidate}
 use Rattle.candidate.specs.declared.Ball.{Ball}
 use Rattle.candidate.specs.Boxes.{at, ballOf, restrict}
@@ -19,8 +19,8 @@ use Rattle.candidate.specs.Cuts.{cutLosing}
 use Rattle.candidate.specs.Compared.{isDominated}
 use Rattle.candidate.specs.Losses.{loseInside}
 use Rattle.functional.specs.declared.Plan.{Plan}
-use Rattle.dominance.specs.declared.Facing.{Facing}
-use Rattle.dominance.specs.Functional.{Task, Living, State, price, outerBall, innerBall, livingAt, cutBack, rangeBox, joinedBy, joinOf, stateAfter, functional}
+use Rattle.search_rules.specs.declared.Facing.{Facing}
+use Rattle.search_rules.specs.Functional.{Task, Living, State, price, outerBall, innerBall, livingAt, cutBack, rangeBox, joinedBy, joinOf, stateAfter, functional}
 
 -- ---- the plan
 

@@ -4,7 +4,7 @@ ghost use Prim.Native.Nat.{_+_, _*_, _≤_, _<_};
 ghost use lib.ListN.{length};
 ghost use Rattle.sums.specs.EachChannel.{Sums};
 ghost use Rattle.candidate.specs.Balls.{ballsAt};
-ghost use Rattle.dominance.specs.Functional.{rangeBox};
+ghost use Rattle.search_rules.specs.Functional.{rangeBox};
 ghost use Rattle.functional.specs.Held.{Room, task, Balls, Sane, AllBelow, Placed, Wide, bornFrom, Borne, Joins};
 use crate::Plan;
 use crate::faces::face_all;

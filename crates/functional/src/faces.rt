@@ -4,9 +4,9 @@ ghost use Prim.Native.Nat.{ℕ, _+_, _-_, _*_, _≤_, _<_};
 ghost use lib.ListN.{length, getD};
 ghost use lib.Ieee.{nan};
 ghost use Rattle.floats.specs.Numbers.{_-ᶠ_, _/ᶠ_, ofWhole};
-ghost use Rattle.readings.specs.Parts.{part};
+ghost use Rattle.areas.specs.Parts.{part};
 ghost use Rattle.sums.specs.EachChannel.{Sums};
-ghost use Rattle.dominance.specs.Functional.{facing, besides, centreAlong};
+ghost use Rattle.search_rules.specs.Functional.{facing, besides, centreAlong};
 ghost use Rattle.functional.specs.Held.{Room, task, putFacing, AllBelow, Mapped};
 use crate::Plan;
 use crate::slots::float_at;
@@ -14,8 +14,8 @@ use crate::slots::index_at;
 use crate::slots::put_facing;
 use costs::CostFunction;
 use costs::cost_of;
-use dominance::Facing;
-use dominance::slack_of;
+use search_rules::Facing;
+use search_rules::slack_of;
 
 fn mean_between(floats: &[f64], place: usize, a: usize, b: usize) -> f64
     requires { ⌜ (a < b) × (b ≤ 4096) × (place + b < length (now floats)) ⌝ }

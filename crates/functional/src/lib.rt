@@ -1,16 +1,16 @@
 // The functional search: the predecessors for the L2 cost on one or two channels, with candidates
 // dropped once no mean is left where they win.
 //
-// `partition_functional` asks nothing of its caller. Crate `dominance` has the search as it is defined,
+// `partition_functional` asks nothing of its caller. Crate `search_rules` has the search as it is defined,
 // and what is answered and left in the lent areas; that one outcome meets it is proved there and here.
 // `specs/Held` is for the private functions: how the areas hold a state.
 mod birth;
+mod boxes;
 mod faces;
 mod losing;
 mod marks;
 mod narrowing;
 mod partition;
-mod ranges;
 mod slots;
 mod steps;
 

@@ -2,11 +2,11 @@
 ghost use mathlib.Core.Path.{_≡_};
 ghost use Prim.Native.Nat.{_+_, _*_, _≤_};
 ghost use lib.ListN.{length};
-ghost use Rattle.dominance.specs.Functional.{innerBall};
+ghost use Rattle.search_rules.specs.Functional.{innerBall};
 ghost use Rattle.functional.specs.Held.{slotAt, facingAt, Balls, lostBy};
 use crate::slots::facing_at;
 use candidate::Ball;
-use dominance::Facing;
+use search_rules::Facing;
 use standing::lose_inside;
 
 // The narrower ball; on one channel its second number is 0.

@@ -6,7 +6,7 @@ ghost use Prim.Native.Nat.{_+_, _*_, _≤_, _<_};
 ghost use lib.ListN.{length};
 ghost use Rattle.candidate.specs.Balls.{ballsAt};
 ghost use Rattle.candidate.specs.Cuts.{cutLosing};
-ghost use Rattle.dominance.specs.Functional.{outerBall, cutBack};
+ghost use Rattle.search_rules.specs.Functional.{outerBall, cutBack};
 ghost use Rattle.functional.specs.Held.{slotAt, boxAt, ballFloats, putBox, Put, Balled, Mapped, ballsIn, livedAt, Kept, BallsOf, Sane, narrowedAt, Remarked, putIndices, Settled, Narrowed};
 use crate::HEADER;
 use crate::MARK;
@@ -21,7 +21,7 @@ use crate::slots::move_balls;
 use crate::slots::put_box;
 use candidate::Ball;
 use candidate::Candidate;
-use dominance::Facing;
+use search_rules::Facing;
 use standing::equals;
 use standing::is_dominated;
 

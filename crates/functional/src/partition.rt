@@ -3,20 +3,20 @@ ghost use mathlib.Core.Path.{_≡_};
 ghost use mathlib.Core.Bool.{true, cond};
 ghost use Prim.Native.Nat.{_+_, _*_, _/_, _≤_};
 ghost use lib.ListN.{length};
-ghost use Rattle.recurrence.specs.Room.{searchFits};
-ghost use Rattle.dominance.specs.Functional.{rangeBox};
-ghost use Rattle.dominance.specs.Partitioned.{fitsTask, Partitioned};
+ghost use Rattle.search_rules.specs.Room.{searchFits};
+ghost use Rattle.search_rules.specs.Functional.{rangeBox};
+ghost use Rattle.search_rules.specs.Partitioned.{fitsTask, Partitioned};
 ghost use Rattle.functional.specs.Held.{Room, task, Holds, Ran};
 use crate::FUNCTIONAL_MAX_CHANNELS;
 use crate::Plan;
 use crate::SLOT;
-use crate::ranges::range_box;
+use crate::boxes::range_box;
 use crate::slots::put_box;
 use crate::steps::search;
 use areas::clear_floats;
 use areas::clear_indices;
 use candidate::Candidate;
-use recurrence::search_fits;
+use search_rules::search_fits;
 use sums::channel_sums;
 
 // The areas as the first step wants them: the sums, F(0), no predecessor, and the candidate 0 with the

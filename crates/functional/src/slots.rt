@@ -4,12 +4,12 @@ ghost use mathlib.Core.Path.{_≡_};
 ghost use Prim.Native.Nat.{_+_, _*_, _≤_, _<_};
 ghost use lib.ListN.{length, getD};
 ghost use lib.Ieee.{nan};
-ghost use Rattle.readings.specs.Parts.{part};
+ghost use Rattle.areas.specs.Parts.{part};
 ghost use Rattle.functional.specs.Held.{slotAt, boxAt, facingAt, putBox, putFacing, Put, Copied, Balled};
 use crate::HEADER;
 use crate::SLOT;
 use candidate::Candidate;
-use dominance::Facing;
+use search_rules::Facing;
 
 pub(crate) fn index_at(area: &[usize], place: usize) -> usize
     requires { ⌜ place < length (now area) ⌝ }

@@ -5,10 +5,10 @@ ghost use Prim.Native.Nat.{ℕ, _+_, _*_, _≤_, _<_};
 ghost use lib.ListN.{length, getD};
 ghost use lib.Ieee.{nan};
 ghost use Rattle.floats.specs.Numbers.{_+ᶠ_};
-ghost use Rattle.readings.specs.Parts.{part};
+ghost use Rattle.areas.specs.Parts.{part};
 ghost use Rattle.sums.specs.EachChannel.{Sums};
-ghost use Rattle.recurrence.specs.Minimum.{scanTo};
-ghost use Rattle.dominance.specs.Functional.{price};
+ghost use Rattle.search_rules.specs.Minimum.{scanTo};
+ghost use Rattle.search_rules.specs.Functional.{price};
 ghost use Rattle.functional.specs.Held.{Room, task, taus, AllBelow, Holds, Stepped, Searched};
 use crate::Plan;
 use crate::birth::birth;
@@ -16,9 +16,9 @@ use crate::slots::float_at;
 use crate::slots::index_at;
 use costs::CostFunction;
 use costs::cost_of;
-use recurrence::Best;
-use recurrence::better;
-use recurrence::none_yet;
+use search_rules::Best;
+use search_rules::better;
+use search_rules::none_yet;
 
 // F(tau), the cost from tau to t, and the penalty. The readings go along for the contract alone.
 fn total_of(run: &[f64], floats: &[f64], plan: Plan, tau: usize, t: usize) -> f64

@@ -8,15 +8,15 @@ use lib.ListN.{length, getD, set, replicate, length-set, length-replicate}
 use lib.Seq.{getD-set-other, getD-set-same}
 use lib.Ieee.{Float, nan, neg}
 use Rattle.floats.specs.Numbers.{+0}
-use Rattle.readings.specs.Parts.{part}
+use Rattle.areas.specs.Parts.{part}
 use Rattle.readings.specs.Channels.{channelOf}
-use Rattle.readings.proofs.PartLaws.{part-at, part-above, push, tab-at}
+use Rattle.areas.proofs.PartLaws.{part-at, part-above, push, tab-at}
 use Rattle.areas.specs.Cleared.{Cleared}
 use Rattle.areas.proofs.ClearedLaws.{cleared-part}
 use Rattle.sums.specs.Sums.{meanOf, centredTo, squaresTo}
 use Rattle.sums.specs.EachChannel.{Sums, RanEach}
 use Rattle.sums.proofs.ChannelLaws.{fits, mul-more, mul-room}
-use Rattle.pruning.specs.Inequality.{stateAfter}
+use Rattle.search_rules.specs.Inequality.{stateAfter}
 use Rattle.inequality.specs.declared.Plan.{Plan}
 use Rattle.inequality.specs.Held.{Room, runOf, Holds}
 use Rattle.inequality.proofs.WeightLaws.{twice}

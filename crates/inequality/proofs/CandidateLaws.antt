@@ -8,8 +8,8 @@ use native.Mathlib.Omega.{arith}
 use native.Mathlib.Nat.{eq-or-lt-of-le, not-suc-le-zero}
 use lib.ListN.{length, getD, length-append, List·getD-append}
 use lib.Seq.{getD-at}
-use Rattle.recurrence.specs.Minimum.{keptTo}
-use Rattle.recurrence.proofs.All.{All, none, all-at, all-last}
+use Rattle.search_rules.specs.Minimum.{keptTo}
+use Rattle.search_rules.proofs.All.{All, none, all-at, all-last}
 use Rattle.inequality.specs.Held.{AllBelow, Rising}
 
 -- ---- what holds of the first j holds of those of them that stay

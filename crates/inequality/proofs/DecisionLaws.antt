@@ -14,8 +14,8 @@ use Rattle.readings.specs.Channels.{channelOf}
 use Rattle.sums.specs.Sums.{meanOf, centredTo, squaresTo}
 use Rattle.sums.proofs.ChannelLaws.{mul-more}
 use Rattle.costs.specs.Costs.{segmentOf, segmentAbout, costOf, costTo}
-use Rattle.recurrence.specs.Minimum.{scanTo, keptTo}
-use Rattle.pruning.specs.Inequality.{State, oldEnough, partOf, bestAt, price}
+use Rattle.search_rules.specs.Minimum.{scanTo, keptTo}
+use Rattle.search_rules.specs.Inequality.{State, oldEnough, partOf, bestAt, price}
 use Rattle.inequality.specs.declared.Plan.{Plan}
 use Rattle.inequality.specs.Held.{planned, runOf, Runs}
 use Rattle.inequality.specs.Weights.{Parted, Written, segmentBy, costBy, weightBy, lowestBy}

@@ -11,8 +11,8 @@ use lib.ListN.{length, getD, set}
 use lib.Seq.{getD-set-other, getD-set-same}
 use lib.Ieee.{Float, nan}
 use Rattle.floats.specs.Numbers.{_<ᶠ_}
-use Rattle.readings.specs.Parts.{part, Frame}
-use Rattle.readings.proofs.PartLaws.{part-suc, part-front, part-above, push, frame-refl, frame-set, frame-wide, frame-trans}
+use Rattle.areas.specs.Parts.{part, Frame}
+use Rattle.areas.proofs.PartLaws.{part-suc, part-front, part-above, push, frame-refl, frame-set, frame-wide, frame-trans}
 use Rattle.sums.proofs.ChannelLaws.{mul-more, mul-room}
 use Rattle.inequality.specs.declared.Plan.{Plan}
 use Rattle.inequality.specs.Held.{Room}

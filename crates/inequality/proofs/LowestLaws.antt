@@ -8,8 +8,8 @@ use native.Mathlib.Numerals.{add-one}
 use lib.ListN.{getD}
 use lib.Ieee.{Float, nan}
 use Rattle.floats.specs.Numbers.{_+ᶠ_, _<ᶠ_}
-use Rattle.recurrence.specs.declared.Best.{Best}
-use Rattle.recurrence.specs.Minimum.{betterOf}
+use Rattle.search_rules.specs.declared.Best.{Best}
+use Rattle.search_rules.specs.Minimum.{betterOf}
 use Rattle.inequality.specs.declared.Plan.{Plan}
 use Rattle.inequality.specs.Weights.{lowestBy}
 

@@ -7,13 +7,13 @@ use native.Mathlib.Omega.{arith}
 use lib.ListN.{length, take, replicate}
 use lib.Ieee.{Float}
 use Rattle.floats.specs.Numbers.{+0}
-use Rattle.readings.specs.Parts.{part}
+use Rattle.areas.specs.Parts.{part}
 use Rattle.areas.specs.Cleared.{Cleared}
 use Rattle.areas.proofs.ClearedLaws.{cleared-whole, cleared-tail}
 use Rattle.costs.specs.declared.CostFunction.{CostFunction}
-use Rattle.recurrence.specs.Room.{searchFits}
-use Rattle.recurrence.proofs.RoomLaws.{Series, Roomy, split-floats}
-use Rattle.pruning.specs.Inequality.{predecessors}
+use Rattle.search_rules.specs.Room.{searchFits}
+use Rattle.search_rules.proofs.RoomLaws.{Series, Roomy, split-floats}
+use Rattle.search_rules.specs.Inequality.{predecessors}
 use Rattle.inequality.specs.declared.Plan.{Plan}
 use Rattle.inequality.specs.Pruned.{Pruned}
 use Rattle.inequality.specs.Held.{Room, planned, Holds}

@@ -8,12 +8,12 @@ use lib.ListN.{length, getD, set, length-set}
 use lib.Seq.{getD-set-other, getD-set-same}
 use lib.Ieee.{Float, nan}
 use Rattle.floats.specs.Numbers.{_+ᶠ_}
-use Rattle.readings.specs.Parts.{part}
-use Rattle.readings.proofs.PartLaws.{part-at, part-length, part-front, part-above, push, store}
+use Rattle.areas.specs.Parts.{part}
+use Rattle.areas.proofs.PartLaws.{part-at, part-length, part-front, part-above, push, store}
 use Rattle.sums.proofs.ChannelLaws.{mul-room}
-use Rattle.recurrence.specs.declared.Best.{Best}
-use Rattle.recurrence.specs.Minimum.{keptTo}
-use Rattle.pruning.specs.Inequality.{State, partOf, bestAt, staysAt, stepOf, stateAfter}
+use Rattle.search_rules.specs.declared.Best.{Best}
+use Rattle.search_rules.specs.Minimum.{keptTo}
+use Rattle.search_rules.specs.Inequality.{State, partOf, bestAt, staysAt, stepOf, stateAfter}
 use Rattle.inequality.specs.declared.Plan.{Plan}
 use Rattle.inequality.specs.Held.{Room, planned, runOf, AllBelow, Rising, Shown, Holds}
 use Rattle.inequality.specs.Weights.{Parted, Written, weightBy, lowestBy}

@@ -12,8 +12,8 @@ use lib.ListN.{length, getD, take, length-map}
 use lib.Seq.{length-take-le}
 use lib.Ieee.{Float, nan}
 use Rattle.floats.specs.Numbers.{_+ᶠ_, _-ᶠ_, _*ᶠ_, _/ᶠ_, _≤ᶠ_, +0, -∞, ofWhole}
-use Rattle.readings.specs.Parts.{part, tab, Frame}
-use Rattle.readings.proofs.PartLaws.{part-at, part-length, tab-length, tab-at, read, frame-refl, frame-trans, frame-wide}
+use Rattle.areas.specs.Parts.{part, tab, Frame}
+use Rattle.areas.proofs.PartLaws.{part-at, part-length, tab-length, tab-at, read, frame-refl, frame-trans, frame-wide}
 use Rattle.sums.proofs.ChannelLaws.{mul-more, mul-room}
 use Rattle.elementary.specs.Logarithm.{ln}
 use Rattle.logarithms.proofs.EachLaws.{ln-at}
@@ -21,7 +21,7 @@ use Rattle.costs.specs.Costs.{costOf, l2Cost, smallestNormal, normalCost}
 use Rattle.costs.specs.declared.CostFunction.{CostFunction}
 use Rattle.costs.specs.declared.CostFunction.the-variants.{L2, Normal}
 use Rattle.costs.specs.declared.Segment.{Segment}
-use Rattle.pruning.specs.Inequality.{oldEnough}
+use Rattle.search_rules.specs.Inequality.{oldEnough}
 use Rattle.inequality.specs.declared.Plan.{Plan}
 use Rattle.inequality.specs.Held.{Room, AllBelow, Rising}
 use Rattle.inequality.specs.Weights.{Parted, Written, segmentBy, costBy, later, added, lengthBy, raised, varianceBy, weightBy}

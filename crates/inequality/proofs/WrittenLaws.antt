@@ -5,8 +5,8 @@ use mathlib.Core.List.{List}
 use native.Mathlib.Omega.{arith}
 use lib.ListN.{length, getD, set}
 use lib.Seq.{getD-take, getD-drop, ext-getD, take-all}
-use Rattle.readings.specs.Parts.{part, tab, Frame}
-use Rattle.readings.proofs.PartLaws.{part-at, part-length, tab-at, tab-length, grow, frame-refl, frame-set, frame-wide}
+use Rattle.areas.specs.Parts.{part, tab, Frame}
+use Rattle.areas.proofs.PartLaws.{part-at, part-length, tab-at, tab-length, grow, frame-refl, frame-set, frame-wide}
 use Rattle.inequality.specs.Weights.{Written}
 
 module _ {A : Type 0} where

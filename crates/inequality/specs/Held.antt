@@ -6,10 +6,10 @@ use mathlib.Core.List.{List}
 use lib.Dec.{eqb}
 use lib.ListN.{length, getD}
 use lib.Ieee.{Float, nan}
-use Rattle.readings.specs.Parts.{part}
+use Rattle.areas.specs.Parts.{part}
 use Rattle.readings.specs.Channels.{channelOf}
 use Rattle.sums.specs.Sums.{meanOf, centredTo, squaresTo}
-use Rattle.pruning.specs.Inequality.{State, stateAfter, price}
+use Rattle.search_rules.specs.Inequality.{State, stateAfter, price}
 use Rattle.inequality.specs.declared.Plan.{Plan}
 
 -- the areas, of lf floats and li indices, have room for what the plan puts there: runs of n + 1 places, two a channel, then F, then the parts

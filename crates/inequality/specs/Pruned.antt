@@ -7,8 +7,8 @@ use lib.ListN.{length, replicate}
 use lib.Ieee.{Float}
 use Rattle.floats.specs.Numbers.{+0}
 use Rattle.costs.specs.declared.CostFunction.{CostFunction}
-use Rattle.recurrence.specs.Room.{searchFits}
-use Rattle.pruning.specs.Inequality.{predecessors, price}
+use Rattle.search_rules.specs.Room.{searchFits}
+use Rattle.search_rules.specs.Inequality.{predecessors, price}
 
 -- the predecessors at the front of the indices and zero everywhere else; both areas as they were where the search does not fit
 pub record Pruned (cost : CostFunction) (penalty : Float) (run : List Float) (n k m : ℕ) (floats floats′ : List Float) (indices indices′ : List ℕ) : Type 0 where

@@ -7,7 +7,7 @@ use mathlib.Core.List.{List, [], _∷_, _++_}
 use lib.ListN.{getD}
 use lib.Ieee.{Float, nan}
 use Rattle.floats.specs.Numbers.{_<ᶠ_}
-use Rattle.readings.specs.Parts.{part, Frame}
+use Rattle.areas.specs.Parts.{part, Frame}
 use Rattle.inequality.specs.declared.Plan.{Plan}
 
 -- the part at place j is below the bound

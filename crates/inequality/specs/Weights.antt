@@ -7,13 +7,13 @@ use lib.Dec.{ltb}
 use lib.ListN.{length, getD}
 use lib.Ieee.{Float, nan}
 use Rattle.floats.specs.Numbers.{_+ᶠ_, _-ᶠ_, _/ᶠ_, _≤ᶠ_, +0, -∞, ofWhole}
-use Rattle.readings.specs.Parts.{part, tab, Frame}
+use Rattle.areas.specs.Parts.{part, tab, Frame}
 use Rattle.costs.specs.Costs.{costOf, l2Cost, smallestNormal}
 use Rattle.costs.specs.declared.CostFunction.{CostFunction}
 use Rattle.costs.specs.declared.Segment.{Segment}
-use Rattle.recurrence.specs.declared.Best.{Best}
-use Rattle.recurrence.specs.Minimum.{noneYet, betterOf}
-use Rattle.pruning.specs.Inequality.{oldEnough}
+use Rattle.search_rules.specs.declared.Best.{Best}
+use Rattle.search_rules.specs.Minimum.{noneYet, betterOf}
+use Rattle.search_rules.specs.Inequality.{oldEnough}
 use Rattle.inequality.specs.declared.Plan.{Plan}
 
 -- the first of the candidates are old enough at t, and the others are not

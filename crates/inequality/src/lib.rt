@@ -2,7 +2,7 @@
 // penalty, with candidates dropped by the inequality. Normal takes it, and L2 on three channels or
 // more.
 //
-// `partition_pruned` asks nothing of its caller. Crate `pruning` has the recurrence, and what holds of
+// `partition_pruned` asks nothing of its caller. Crate `search_rules` has the recurrence, and what holds of
 // the predecessors; `specs/Pruned` says what is left in the lent areas, and that one outcome meets it
 // is proved. The others are for the private functions: `specs/Held` how the areas hold a state of the
 // recurrence, `specs/Weights` the parts that they give, `specs/Staying` the candidates that stay.

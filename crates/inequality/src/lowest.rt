@@ -9,9 +9,9 @@ ghost use Rattle.inequality.specs.Weights.{lowestBy};
 use crate::Plan;
 use crate::weights::float_at;
 use crate::weights::index_at;
-use recurrence::Best;
-use recurrence::better;
-use recurrence::none_yet;
+use search_rules::Best;
+use search_rules::better;
+use search_rules::none_yet;
 
 // Whether the total at a place is below a cost.
 fn total_below(floats: &[f64], place: usize, penalty: f64, cost: f64) -> bool

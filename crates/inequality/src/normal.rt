@@ -5,7 +5,7 @@ ghost use Prim.Native.Nat.{_+_, _*_, _≤_, _<_};
 ghost use lib.ListN.{length, getD};
 ghost use lib.Ieee.{nan};
 ghost use Rattle.floats.specs.Numbers.{_+ᶠ_, _*ᶠ_};
-ghost use Rattle.readings.specs.Parts.{part, tab};
+ghost use Rattle.areas.specs.Parts.{part, tab};
 ghost use Rattle.costs.specs.declared.CostFunction.the-variants.{Normal};
 ghost use Rattle.inequality.specs.Held.{Room, AllBelow};
 ghost use Rattle.inequality.specs.Weights.{Written, added, raised, varianceBy, lengthBy};

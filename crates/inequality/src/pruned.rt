@@ -8,7 +8,7 @@ use crate::steps::search;
 use areas::clear_floats;
 use areas::clear_indices;
 use costs::CostFunction;
-use recurrence::search_fits;
+use search_rules::search_fits;
 use sums::channel_sums;
 
 // The areas as the first step wants them: the sums, F(0), no predecessor, and the candidate 0.

@@ -11,8 +11,8 @@ use lib.ListN.{length, getD, set, take, replicate}
 use lib.Seq.{take-length, take-suc-set}
 use lib.Ieee.{Float, nan}
 use Rattle.floats.specs.Numbers.{_+ᶠ_, _*ᶠ_, +0, ratio}
-use Rattle.readings.specs.Parts.{tab}
-use Rattle.readings.proofs.PartLaws.{tab-length, tab-at, tab-more}
+use Rattle.areas.specs.Parts.{tab}
+use Rattle.areas.proofs.PartLaws.{tab-length, tab-at, tab-more}
 use Rattle.medians.specs.declared.Middles.{Middles}
 use Rattle.medians.specs.Median.{differenceAt, differences, median, fitsRun, Found}
 use Rattle.medians.specs.Ranks.{Each, magnitude, rankedOf, middlesOf}

@@ -8,7 +8,7 @@ use lib.ListN.{length, getD, replicate}
 use lib.Ieee.{Float, nan}
 use Rattle.floats.specs.Numbers.{_+ᶠ_, _-ᶠ_, _*ᶠ_, +0, ratio}
 use Rattle.floats.specs.Finite.{abs}
-use Rattle.readings.specs.Parts.{tab}
+use Rattle.areas.specs.Parts.{tab}
 use Rattle.medians.specs.Order.{sorted}
 
 -- the magnitude of the difference between reading i + 1 and reading i

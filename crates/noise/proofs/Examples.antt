@@ -6,9 +6,9 @@ use lib.Ieee.{nan, binary64, isNan, lt, ne, add, sub, mul, div, ofInt, ofBits}
 use Rattle.floats.specs.Numbers.{ofWhole, ratio, +0}
 use Rattle.floats.specs.Finite.{abs}
 use Rattle.floats.specs.MaxMin.{larger, smaller}
-use Rattle.readings.specs.Parts.{part, tab}
+use Rattle.areas.specs.Parts.{part, tab}
 use Rattle.readings.specs.Channels.{hasChannel, channelOf}
-use Rattle.extremes.specs.Extremes.{lowestTo, highestTo, rangeOf}
+use Rattle.ranges.specs.Ranges.{lowestTo, highestTo, rangeOf}
 use Rattle.floats.specs.Ahead.{ahead}
 use Rattle.medians.specs.Order.{insert, sorted}
 use Rattle.medians.specs.Median.{differenceAt, differences, median}

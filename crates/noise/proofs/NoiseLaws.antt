@@ -12,12 +12,12 @@ use lib.Seq.{drop-drop, take-take, take-at, drop-at, length-take-le}
 use lib.Ieee.{Float, nan}
 use Rattle.floats.specs.Numbers.{_+ᶠ_, +0}
 use Rattle.floats.specs.MaxMin.{larger}
-use Rattle.readings.specs.Parts.{part}
+use Rattle.areas.specs.Parts.{part}
 use Rattle.readings.specs.Channels.{hasChannel, channelOf}
-use Rattle.readings.proofs.PartLaws.{part-length}
+use Rattle.areas.proofs.PartLaws.{part-length}
 use Rattle.areas.specs.Cleared.{Cleared}
 use Rattle.areas.proofs.ClearedLaws.{cleared-part}
-use Rattle.extremes.specs.Extremes.{rangeOf}
+use Rattle.ranges.specs.Ranges.{rangeOf}
 use Rattle.medians.specs.Median.{differences, median, Found}
 use Rattle.medians.proofs.MedianLaws.{found-median}
 use Rattle.noise.specs.Noise.{spreadOf, floorOf, squared, noise, noiseSumTo, hasRoom, cleared, Lent}

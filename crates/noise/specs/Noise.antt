@@ -9,8 +9,8 @@ use lib.Ieee.{Float, nan}
 use Rattle.floats.specs.Numbers.{_+ᶠ_, _-ᶠ_, _*ᶠ_, _/ᶠ_, +0, ratio}
 use Rattle.floats.specs.MaxMin.{larger}
 use Rattle.readings.specs.Channels.{channelOf}
-use Rattle.extremes.specs.Extremes.{rangeOf}
-use Rattle.extremes.specs.declared.Range.{Range}
+use Rattle.ranges.specs.Ranges.{rangeOf}
+use Rattle.ranges.specs.declared.Range.{Range}
 use Rattle.medians.specs.Median.{differences, median}
 
 -- a median of differences over 0.6745 * 1.4142135623730951

@@ -5,10 +5,10 @@ ghost use Prim.Native.Nat.{_-_};
 ghost use lib.ListN.{length};
 ghost use Rattle.noise.specs.Noise.{hasRoom, noise, noiseSumTo, cleared, Lent};
 use areas::clear_floats;
-use extremes::range_of;
+use ranges::range_of;
 use floats::max;
 use medians::median_difference;
-use views::channel_of;
+use readings::channel_of;
 
 // How many differences n readings have.
 fn steps(n: usize) -> usize

@@ -5,9 +5,9 @@ use mathlib.Core.List.{List, [], _∷_}
 use lib.ListN.{length}
 use lib.Ieee.{Float}
 use Rattle.readings.specs.Shape.{firstLength}
-use Rattle.searches.specs.declared.Searched.the-variants as Searched
-use Rattle.searches.proofs.CutLaws.{detected-cuts}
-use Rattle.searches.proofs.FrontLaws.{detected-count}
+use Rattle.search_answer.specs.declared.Searched.the-variants as Searched
+use Rattle.search_answer.proofs.CutLaws.{detected-cuts}
+use Rattle.search_answer.proofs.FrontLaws.{detected-count}
 use Rattle.pelt.specs.declared.Pelt.{Pelt}
 use Rattle.pelt.specs.Detected.{Detected}
 use Rattle.pelt.specs.Promise.{CutsInFront}

@@ -11,9 +11,9 @@ use Rattle.refusals.specs.declared.Refusal.the-variants as Refusal
 use Rattle.readings.specs.Shape.{firstLength}
 use Rattle.readings.specs.FirstGap.{readingOf, FirstGap}
 use Rattle.readings.proofs.FirstGapLaws.{reading-at}
-use Rattle.admission.proofs.AdmissionLaws.{Shapely}
-use Rattle.searches.specs.declared.Searched.the-variants as Searched
-use Rattle.searches.proofs.FrontLaws.{detected-gap}
+use Rattle.search_answer.proofs.AdmissionLaws.{Shapely}
+use Rattle.search_answer.specs.declared.Searched.the-variants as Searched
+use Rattle.search_answer.proofs.FrontLaws.{detected-gap}
 use Rattle.pelt.specs.declared.Pelt.{Pelt}
 use Rattle.pelt.specs.Detected.{Detected}
 use Rattle.pelt.specs.Promise.{FirstGapOfOne}

@@ -5,8 +5,8 @@ use mathlib.Core.List.{List}
 use lib.Ieee.{Float}
 use Rattle.costs.specs.declared.CostFunction.{CostFunction}
 use Rattle.costs.specs.declared.Penalty.{Penalty}
-use Rattle.searches.specs.declared.Searched.{Searched}
-use Rattle.searches.specs.Left as Search
+use Rattle.search_answer.specs.declared.Searched.{Searched}
+use Rattle.search_answer.specs.Left as Search
 use Rattle.pelt.specs.declared.Pelt.{Pelt}
 
 -- the two constructors: the minimum length is 2, or as given

@@ -6,7 +6,7 @@ use mathlib.Core.List.{List}
 use lib.ListN.{length, getD, take}
 use lib.Ieee.{Float, nan}
 use Rattle.floats.specs.Finite.{finite}
-use Rattle.searches.specs.Demand.{Cut}
+use Rattle.search_answer.specs.Demand.{Cut}
 use Rattle.pelt.specs.declared.Pelt.{Pelt}
 
 -- so many cuts of n readings stand in the front of the lent area, as demand 2 says

@@ -1,18 +1,18 @@
 // Changes in readings: the search behind a report, over the flat readings of one channel or more.
 //
 // Every call ends with the cuts or a numbered refusal, and asks nothing of its caller. `specs/Detected`
-// says what is answered and what every lent area holds afterwards, by the refusals of crate `admission`
-// and the cuts of crate `searches`. That one outcome meets it, and what demand 2 says of the cuts, is
-// proved in `searches/proofs` (`Outcomes`, `CutLaws`).
+// says what is answered and what every lent area holds afterwards, by the refusals of crate `search_answer`
+// and the cuts of crate `search_answer`. That one outcome meets it, and what demand 2 says of the cuts, is
+// proved in `search_answer/proofs` (`Outcomes`, `CutLaws`).
 use costs::CostFunction;
 use costs::Penalty;
-pub use finding::Searched;
-use finding::find_cuts;
+pub use search::Searched;
+use search::find_cuts;
 ghost use mathlib.Core.Path.{_≡_};
 ghost use mathlib.Core.Bool.{true, false};
 ghost use mathlib.Core.List.{[], _∷_};
 ghost use lib.ListN.{length};
-ghost use Rattle.searches.specs.Search.{takesFunctional};
+ghost use Rattle.search_answer.specs.Search.{takesFunctional};
 ghost use Rattle.pelt.specs.Detected.{newOf, withMinSegmentLen, Detected};
 
 // A search: how a segment is priced, the penalty of a change, and the least length of a piece. The
@@ -25,7 +25,7 @@ pub struct Pelt {
 
 impl Pelt {
     // The most channels on which the L2 cost takes the functional search.
-    pub const FUNCTIONAL_MAX_CHANNELS: usize = finding::FUNCTIONAL_MAX_CHANNELS;
+    pub const FUNCTIONAL_MAX_CHANNELS: usize = search::FUNCTIONAL_MAX_CHANNELS;
 
     // A search for pieces of 2 readings or more.
     pub fn new(cost: CostFunction, penalty: Penalty) -> Pelt

@@ -1,5 +1,5 @@
-pub mod Parts
 pub mod Shape
 pub mod Gaps
 pub mod Channels
 pub mod FirstGap
+pub mod View

@@ -1,21 +1,24 @@
 // The flat run of readings and its list of channel lengths: what refusals 3, 4, 5, 6 and 8 ask of
-// them, and a channel as a part of the run. Crate `views` has the view by which callers take one.
+// them, and the view by which callers take a channel as a part of the run.
 //
 // No function asks anything of its caller. Lengths are added exactly: a list whose sum only fits
 // after it wrapped is refused.
 //
 // What the answers say in document 01's numbers: `shaped` and `checked` in `specs/`, and the laws
-// `shaped-said` and `checked-said` in `proofs/`.
+// `shaped-said` and `checked-said` in `proofs/`. Where there is no channel `k` the view gives an empty
+// part: `specs/View`; that the channels of lengths which are not refused are the parts of the run is a
+// law of `proofs/ViewLaws`.
+mod channels;
 mod gaps;
 mod lengths;
-mod parts;
+mod view;
 
 pub use gaps::all_finite;
 pub use gaps::first_gap;
 pub use lengths::first_length;
 pub use lengths::shape;
-pub use parts::channel;
 use refusals::Refusal;
+pub use view::channel_of;
 
 // What the lengths say of a run: so many channels of so many readings each, or a refusal.
 pub enum Shaped {
@@ -27,4 +30,11 @@ pub enum Shaped {
 pub enum Checked {
     Finite,
     Refused(Refusal),
+}
+
+// A flat run, and how many channels of how many readings it is taken for.
+pub struct Readings<'a> {
+    pub run: &'a [f64],
+    pub channels: usize,
+    pub length: usize,
 }

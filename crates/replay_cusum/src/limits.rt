@@ -6,13 +6,13 @@ use crate::records::match_unused;
 use crate::records::replay_answers;
 use crate::records::unused;
 use cusum::Cusum;
-use replay::LIMIT;
-use replay::Progress;
-use replay::match_answers;
+use replay_common::LIMIT;
+use replay_common::Progress;
+use replay_common::match_answers;
 
 // Compares a refusal of this number, with room for two results.
 fn refused_two(progress: Progress, chart: Cusum, data: &[f64], refusal: u64) -> Progress {
-    let mut points = [replay::UNUSED; 2];
+    let mut points = [replay_common::UNUSED; 2];
     let signalled = chart.signal_points(data, &mut points);
     let lent = lend_two(chart, data, [unused(); 2]);
     let charted = lent.answer;
@@ -20,13 +20,13 @@ fn refused_two(progress: Progress, chart: Cusum, data: &[f64], refusal: u64) -> 
     let answered = match_answers(progress, LIMIT, refusal, 0, signalled, 0, charted);
     let first = match_unused(answered, 0, records[0]);
     let second = match_unused(first, 1, records[1]);
-    let third = replay::compare_point(second, 0, points[0], false);
-    replay::compare_point(third, 1, points[1], false)
+    let third = replay_common::compare_point(second, 0, points[0], false);
+    replay_common::compare_point(third, 1, points[1], false)
 }
 
 // Compares an answer for as many readings as there is room for.
 fn answered_two(progress: Progress, chart: Cusum, data: &[f64], signals: usize) -> Progress {
-    let mut points = [replay::UNUSED; 2];
+    let mut points = [replay_common::UNUSED; 2];
     let signalled = chart.signal_points(data, &mut points);
     let lent = lend_two(chart, data, [unused(); 2]);
     let charted = lent.answer;

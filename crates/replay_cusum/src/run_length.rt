@@ -3,9 +3,9 @@ use cusum::Cusum;
 use cusum::Heard;
 use cusum::Side;
 use refusals::Refusal;
-use replay::Progress;
-use replay::float;
-use replay::number;
+use replay_common::Progress;
+use replay_common::float;
+use replay_common::number;
 
 // The kind of a run length.
 const RUN_LENGTH: usize = 5;
@@ -30,7 +30,7 @@ fn heard(answer: Heard) -> u64 {
 
 // The run length that the input has next, by this chart.
 pub(crate) fn replay_run_length(progress: Progress, chart: Cusum, side: Side) -> Progress {
-    let block = replay::next_block(11);
+    let block = replay_common::next_block(11);
     let bytes = block.bytes;
     if !block.whole {
         return progress.stopped();

@@ -1,5 +1,5 @@
 // `analyze` for functions that the borrow checker covers: the records are lent as an array that is passed
-// and returned by value. Each of the two proofs is `walks/proofs/ByValue` at a length.
+// and returned by value. Each of the two proofs is `charts/proofs/ByValue` at a length.
 use charts::Charted;
 use ewma::Ewma;
 use ewma::EwmaResult;

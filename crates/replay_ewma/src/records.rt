@@ -3,10 +3,10 @@ use crate::lend::lend;
 use charts::Observation;
 use ewma::Ewma;
 use ewma::EwmaResult;
-use replay::KEPT;
-use replay::Progress;
-use replay::RECORD;
-use replay::number;
+use replay_common::KEPT;
+use replay_common::Progress;
+use replay_common::RECORD;
+use replay_common::number;
 
 // A record as numbers, values by their bit patterns. The mark is the index, and 32 bits higher a 1 for a
 // signal.
@@ -62,7 +62,7 @@ pub(crate) fn match_unused(progress: Progress, place: usize, got: EwmaResult) ->
 // stored for its place with what was there before.
 fn compare_record(progress: Progress, place: usize, got: EwmaResult, stored: bool) -> Progress {
     if stored {
-        let block = replay::next_block(27);
+        let block = replay_common::next_block(27);
         if block.whole {
             let bytes = block.bytes;
             let expected = Fields {
@@ -97,18 +97,18 @@ pub(crate) fn replay_answers(
     refusal: u64,
     kind: usize,
 ) -> Progress {
-    let next = replay::next_count(refusal);
+    let next = replay_common::next_count(refusal);
     if !next.whole {
         return progress.stopped();
     }
     let points_stored = next.value as usize;
     let records_stored = if refusal == 0 { data.len() } else { 0 };
-    let mut points = [replay::UNUSED; 4097];
+    let mut points = [replay_common::UNUSED; 4097];
     let signalled = chart.signal_points(data, &mut points);
     let lent = lend(chart, data, [unused(); 4097]);
     let charted = lent.answer;
     let records = lent.records;
-    let answered = replay::match_answers(
+    let answered = replay_common::match_answers(
         progress,
         kind,
         refusal,
@@ -117,6 +117,6 @@ pub(crate) fn replay_answers(
         records_stored,
         charted,
     );
-    let compared = replay::compare_points(answered, &points, points_stored);
+    let compared = replay_common::compare_points(answered, &points, points_stored);
     compare_records(compared, records, records_stored)
 }

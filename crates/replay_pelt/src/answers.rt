@@ -5,8 +5,8 @@ use crate::lent::first_float_unlike;
 use crate::lent::first_index_unlike;
 use pelt::Searched;
 use refusals::Refusal;
-use replay::Progress;
-use replay::next_number;
+use replay_common::Progress;
+use replay_common::next_number;
 
 // The kinds of what is compared: see `main`. The others follow from the stored numbers.
 const CUT: usize = 8;

@@ -7,11 +7,11 @@ use costs::CostFunction;
 use costs::Penalty;
 use pelt::Pelt;
 use pelt::Searched;
-use replay::Progress;
-use replay::float;
-use replay::next_block;
-use replay::next_number;
-use replay::number;
+use replay_common::Progress;
+use replay_common::float;
+use replay_common::next_block;
+use replay_common::next_number;
+use replay_common::number;
 
 // The letter of a call.
 const CALL: u64 = b'c' as u64;

@@ -2,8 +2,8 @@
 // place of one that a call left otherwise than it should.
 use floats::from_bits;
 use floats::to_bits;
-use replay::Stored;
-use replay::next_number;
+use replay_common::Stored;
+use replay_common::next_number;
 use std::num::nearest_u64_to_f64;
 
 // The areas have room for 8 channels of 4,096 readings and for 320 slots, and some to spare.

@@ -35,7 +35,7 @@ use lent::FLOATS;
 use lent::INDICES;
 use lent::POOL;
 use lent::READINGS;
-use replay::Progress;
+use replay_common::Progress;
 use state::State;
 use state::next_other;
 

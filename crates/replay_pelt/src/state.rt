@@ -1,7 +1,7 @@
 // What was compared so far, and what is in use of the run and the lengths.
 use crate::lent::next_lengths;
 use crate::lent::next_run;
-use replay::Progress;
+use replay_common::Progress;
 
 // The letters of the records that are no call: a run, the lengths of its channels, the end.
 const RUN: u64 = b'r' as u64;

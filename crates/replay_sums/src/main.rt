@@ -27,8 +27,8 @@ mod variances;
 
 use penalties::replay_penalty;
 use pieces::replay_piece;
-use replay::Block;
-use replay::Progress;
+use replay_common::Block;
+use replay_common::Progress;
 use runs::replay_run;
 
 // The case whose first 33 bytes these are.
@@ -53,7 +53,7 @@ fn replay_all() -> Progress {
     let mut progress = Progress::new();
     let mut turn = 0u64;
     while turn < u64::MAX {
-        progress = replay_case(progress, replay::next_block(33));
+        progress = replay_case(progress, replay_common::next_block(33));
         if !progress.more {
             return progress;
         }

@@ -2,10 +2,10 @@
 use costs::CostFunction;
 use costs::Penalty;
 use costs::resolve_penalty;
-use replay::Progress;
-use replay::float;
-use replay::next_block;
-use replay::number;
+use replay_common::Progress;
+use replay_common::float;
+use replay_common::next_block;
+use replay_common::number;
 
 // The kind of a penalty.
 const PENALTY: usize = 1;

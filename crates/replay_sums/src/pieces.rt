@@ -5,9 +5,9 @@ use costs::CostFunction;
 use costs::Segment;
 use costs::segment_cost;
 use piece::Summarised;
-use replay::Progress;
-use replay::next_block;
-use replay::number;
+use replay_common::Progress;
+use replay_common::next_block;
+use replay_common::number;
 use std::num::nearest_u64_to_f64;
 use std::num::wrapping_sub_u64;
 
@@ -18,7 +18,7 @@ const PIECE: usize = 0;
 // each, so that a zero has no sign: the Rust leaves that sign open.
 fn match_range(progress: Progress, channel: &[f64], place: &[u8; 33]) -> Progress {
     let mean = sums::mean(channel);
-    let range = extremes::range_about(extremes::range_of(channel), mean);
+    let range = ranges::range_about(ranges::range_of(channel), mean);
     progress
         .matched_float(3, 0, place, 4, mean + 0.0)
         .matched_float(4, 0, place, 12, range.lo + 0.0)
@@ -118,7 +118,7 @@ fn match_summary(
 
 // The piece whose first 33 bytes are these.
 pub(crate) fn replay_piece(progress: Progress, answers: &[u8; 33]) -> Progress {
-    let series = replay::next_series();
+    let series = replay_common::next_series();
     let place = next_block(28);
     let running = next_block(32);
     if !(series.whole & place.whole & running.whole) {

@@ -4,10 +4,10 @@ use crate::segments::match_segments;
 use crate::variances::Room;
 use crate::variances::lend_for_sum;
 use crate::variances::match_variances;
-use replay::Progress;
-use replay::next_block;
-use replay::next_readings;
-use replay::number;
+use replay_common::Progress;
+use replay_common::next_block;
+use replay_common::next_readings;
+use replay_common::number;
 
 // The sum of the noise variances, the penalties that it gives, then what the input has next: the noise
 // variances and the segments.

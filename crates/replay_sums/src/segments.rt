@@ -1,9 +1,9 @@
 // Comparing the costs of segments, added over the channels of a run, with the stored ones.
 use costs::CostFunction;
 use costs::cost_of;
-use replay::Progress;
-use replay::next_block;
-use replay::number;
+use replay_common::Progress;
+use replay_common::next_block;
+use replay_common::number;
 
 // The kind of a segment.
 const SEGMENT: usize = 5;

@@ -5,10 +5,10 @@ use crate::penalties::match_penalties;
 use floats::to_bits;
 use noise::noise_sum;
 use noise::noise_variance;
-use replay::Progress;
-use replay::next_number;
-use replay::number;
-use views::channel_of;
+use replay_common::Progress;
+use replay_common::next_number;
+use replay_common::number;
+use readings::channel_of;
 
 // The kinds of what is compared here.
 const VARIANCE: usize = 2;

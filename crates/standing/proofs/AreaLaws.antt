@@ -13,10 +13,10 @@ use lib.Seq.{getD-set-other, getD-set-same, ext-getD}
 use lib.Ieee.{Float, nan, lt, eq, le}
 use Rattle.floats.specs.Numbers.{_-ᶠ_, _<ᶠ_, _≤ᶠ_, +0}
 use Rattle.elementary.specs.Root.{sqrt}
-use Rattle.readings.specs.Parts.{tab, Frame}
-use Rattle.readings.proofs.PartLaws.{tab-same, tab-length, tab-at, tab-more, frame-refl, frame-set}
-use Rattle.losing.specs.Losing.{radiusAt, narrowestIn, putBall, copyLast, displaced}
-use Rattle.losing.proofs.LosingLaws.{room-fits, narrowest-within}
+use Rattle.areas.specs.Parts.{tab, Frame}
+use Rattle.areas.proofs.PartLaws.{tab-same, tab-length, tab-at, tab-more, frame-refl, frame-set}
+use Rattle.candidate_balls.specs.Losing.{radiusAt, narrowestIn, putBall, copyLast, displaced}
+use Rattle.candidate_balls.proofs.LosingLaws.{room-fits, narrowest-within}
 use Rattle.candidate.specs.declared.Ball.{Ball}
 use Rattle.candidate.specs.Boxes.{at, ballOf}
 use Rattle.candidate.specs.Balls.{ballAt, heldAt, meant, ballsAt, Rooted, hasRoom}

@@ -1,7 +1,7 @@
 // The balls in which a candidate loses.
 ghost use Rattle.candidate.specs.Losses.{Lost};
 use candidate::Ball;
-use losing::lose;
+use candidate_balls::lose;
 
 // Notes that the candidate whose balls stand here, so many of them, loses inside one more, and says
 // how many there are then; nothing is done where there is no room. Cost: 64 turns with a full list,

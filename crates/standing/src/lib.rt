@@ -5,7 +5,7 @@
 // 2. Each result, and each area afterwards, is to the bit what `candidate/specs/Compared` and
 // `candidate/specs/Losses` say. That in an area this is what the definitions do to the list of balls
 // which it stands for, is said in `proofs/AreaLaws`, and in `proofs/StayLaws` that a box which `restrict`
-// leaves equal it leaves as it was. The runs of the area stand in crate `losing`.
+// leaves equal it leaves as it was. The runs of the area stand in crate `candidate_balls`.
 mod balls;
 mod compared;
 

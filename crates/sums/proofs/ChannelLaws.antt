@@ -11,9 +11,9 @@ use borrow.Author.Tests.{leb-true, le-leb, lt-ltb}
 use lib.Dec.{leb}
 use lib.ListN.{length}
 use lib.Ieee.{Float}
-use Rattle.readings.specs.Parts.{Frame}
+use Rattle.areas.specs.Parts.{Frame}
 use Rattle.readings.specs.Channels.{hasChannel, channelOf}
-use Rattle.readings.proofs.PartLaws.{part-front, part-length}
+use Rattle.areas.proofs.PartLaws.{part-front, part-length}
 use Rattle.sums.specs.Sums.{meanOf, Held, Summed}
 use Rattle.sums.specs.EachChannel.{Sums, sumsFit, RanEach}
 

@@ -7,8 +7,8 @@ use mathlib.Core.List.{List, _++_}
 use native.Mathlib.Omega.{arith}
 use lib.ListN.{length}
 use lib.Ieee.{Float}
-use Rattle.readings.specs.Parts.{part, tab}
-use Rattle.readings.proofs.PartLaws.{part-add, framed-once}
+use Rattle.areas.specs.Parts.{part, tab}
+use Rattle.areas.proofs.PartLaws.{part-add, framed-once}
 use Rattle.sums.specs.EachChannel.{Sums, sumsFit, RanEach}
 use Rattle.sums.specs.Sums.{centredTo, squaresTo, Held, Summed, Ran, twoRuns}
 

@@ -10,8 +10,8 @@ use native.Mathlib.Numerals.{add-one}
 use lib.ListN.{length, getD, set, length-set}
 use lib.Ieee.{Float, nan}
 use Rattle.floats.specs.Numbers.{_+ᶠ_, _-ᶠ_, _*ᶠ_, +0}
-use Rattle.readings.specs.Parts.{part, tab, Frame}
-use Rattle.readings.proofs.PartLaws.{grow, part-below, part-above, frame-refl, frame-set, frame-trans}
+use Rattle.areas.specs.Parts.{part, tab, Frame}
+use Rattle.areas.proofs.PartLaws.{grow, part-below, part-above, frame-refl, frame-set, frame-trans}
 use Rattle.sums.specs.Sums.{sumTo, centred, centredTo, squaresTo, Summed, Ran, twoRuns}
 
 pub sum-more : (xs : List Float) (i : ℕ) (s : Float) → s ≡ sumTo xs i → s +ᶠ getD xs i nan ≡ sumTo xs (i + 1)

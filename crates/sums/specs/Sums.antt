@@ -7,7 +7,7 @@ use lib.Dec.{leb}
 use lib.ListN.{length, getD}
 use lib.Ieee.{Float, nan}
 use Rattle.floats.specs.Numbers.{_+ᶠ_, _-ᶠ_, _*ᶠ_, _/ᶠ_, +0, ofWhole}
-use Rattle.readings.specs.Parts.{part, tab, Frame}
+use Rattle.areas.specs.Parts.{part, tab, Frame}
 
 -- the sum of the first i readings, from index 0 up
 unfoldable pub sumTo : List Float → ℕ → Float

@@ -2,14 +2,14 @@
 ghost use mathlib.Core.Path.{_≡_};
 ghost use Prim.Native.Nat.{_+_, _*_, _≤_};
 ghost use lib.ListN.{length};
-ghost use Rattle.readings.specs.Parts.{Frame};
+ghost use Rattle.areas.specs.Parts.{Frame};
 ghost use Rattle.sums.specs.Sums.{meanOf, Summed};
 ghost use Rattle.sums.specs.EachChannel.{sumsFit, Sums, RanEach};
 use crate::running::run_on;
 use crate::total::mean;
 use refusals::MAX_CHANNELS;
 use refusals::MAX_READINGS;
-use views::channel_of;
+use readings::channel_of;
 
 // Whether a run of so many readings has the channels, and an area of so many places room for their
 // sums. The limits are tested first, so that no product wraps.

@@ -1,5 +1,5 @@
 //! What the model of the definitions is held to: calls, each with what it is to come to. They are the rows
-//! of `crates/marked/specs`, read from those files, and the stored cases of the crates `replay_*`, read
+//! of `crates/worked_examples/specs`, read from those files, and the stored cases of the crates `replay_*`, read
 //! from their standard input. Nothing here computes what a definition says.
 
 mod charts;
@@ -165,7 +165,7 @@ pub enum Function {
     Finite,
 }
 
-/// What is asked. The first ones are those of `crates/marked/specs/Calls.antt`; the others are what stored
+/// What is asked. The first ones are those of `crates/worked_examples/specs/Calls.antt`; the others are what stored
 /// cases ask of the definitions that a search, a summary and the program are made of.
 #[derive(Clone, Debug)]
 pub enum Call {

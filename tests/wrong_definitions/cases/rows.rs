@@ -1,4 +1,4 @@
-//! The rows of a file of `crates/marked/specs`, evaluated.
+//! The rows of a file of `crates/worked_examples/specs`, evaluated.
 
 use crate::naturals::Natural;
 use crate::syntax::{definitions_of, Definition, Expression, Form};

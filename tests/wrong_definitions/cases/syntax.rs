@@ -1,4 +1,4 @@
-//! The language in which the files of `crates/marked/specs` write rows: numbers, names, application, `∷`
+//! The language in which the files of `crates/worked_examples/specs` write rows: numbers, names, application, `∷`
 //! and `++`, `+`, `-`, `*` and `^`, tuples and parentheses. A row's name is the first word of the last
 //! comment before it.
 

@@ -1,4 +1,4 @@
-//! The words of the rows, as `crates/marked/specs/Rows.antt` and what it uses define them. All of them
+//! The words of the rows, as `crates/worked_examples/specs/Rows.antt` and what it uses define them. All of them
 //! stand in `WORDS`: a word that gets another name there gets it here, and nowhere else.
 
 use crate::naturals::{nearest, Natural};

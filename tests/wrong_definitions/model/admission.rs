@@ -1,4 +1,4 @@
-//! `crates/admission/specs`: Tests.
+//! `crates/search_answer/specs`: Tests.
 
 use crate::floats::finite;
 use crate::readings::{channel_at, first_length, gap_to, index_at, shape_tests};

@@ -1,4 +1,4 @@
-//! `crates/marked/specs`: Calls, and what stored cases ask besides.
+//! `crates/worked_examples/specs`: Calls, and what stored cases ask besides.
 
 use crate::candidate::lose_inside;
 use crate::charts::{chart_answer, points, written_by};

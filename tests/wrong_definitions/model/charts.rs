@@ -1,4 +1,4 @@
-//! `crates/charts/specs`: Answers; `crates/walks/specs`: Runs; `writtenBy` of `crates/marked/specs/Calls`.
+//! `crates/charts/specs`: Answers; `crates/charts/specs`: Runs; `writtenBy` of `crates/worked_examples/specs/Calls`.
 
 use crate::readings::rest_of;
 use crate::refusals::{tried, Refusal};

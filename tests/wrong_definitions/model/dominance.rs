@@ -1,4 +1,4 @@
-//! `crates/dominance/specs`: Functional.
+//! `crates/search_rules/specs`: Functional.
 
 use crate::candidate::{ball_of, cut_losing, is_dominated, lose_inside, restrict, Candidate};
 use crate::costs::{cost_to, segment_of};

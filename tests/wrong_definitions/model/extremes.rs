@@ -1,4 +1,4 @@
-//! `crates/extremes/specs`: Extremes.
+//! `crates/ranges/specs`: Extremes.
 
 use crate::floats::{get, larger, smaller};
 

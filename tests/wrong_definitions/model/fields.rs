@@ -1,4 +1,4 @@
-//! `crates/fields/specs`: Answer.
+//! `crates/cuts_answer/specs`: Answer.
 
 use crate::admission::{passed, search_tests, Lengths};
 use crate::form::{request_of, Request};

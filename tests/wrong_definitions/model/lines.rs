@@ -1,4 +1,4 @@
-//! `crates/lines/specs`: Lines.
+//! `crates/cuts_output/specs`: Lines.
 
 use cases::Said;
 

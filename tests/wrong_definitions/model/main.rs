@@ -5,7 +5,7 @@
 //!     model ROOT rows
 //!     model ROOT stored
 //!
-//! compare the rows of `ROOT/crates/marked/specs`, or the stored cases of `ROOT/crates/replay_*`. Each prints
+//! compare the rows of `ROOT/crates/worked_examples/specs`, or the stored cases of `ROOT/crates/replay_*`. Each prints
 //! one line: how many there are, and behind a colon the names of the rows that differ, or the first stored
 //! case that does, at which it ends.
 //!
@@ -54,7 +54,7 @@ use std::path::Path;
 /// The rows of both tables.
 fn rows(root: &Path) -> Vec<Row> {
     let file = |name| {
-        let path = root.join("crates/marked/specs").join(name);
+        let path = root.join("crates/worked_examples/specs").join(name);
         fs::read_to_string(&path).unwrap_or_else(|e| panic!("{}: {e}", path.display()))
     };
     let texts = [file("Marked.antt"), file("Further.antt")];

@@ -1,4 +1,4 @@
-//! `crates/pruning/specs`: Inequality.
+//! `crates/search_rules/specs`: Inequality.
 
 use crate::floats::get;
 use crate::recurrence::{kept_to, scan_to, Best};

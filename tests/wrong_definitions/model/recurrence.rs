@@ -1,4 +1,4 @@
-//! `crates/recurrence/specs`: Minimum.
+//! `crates/search_rules/specs`: Minimum.
 
 #[derive(Clone, Copy)]
 pub struct Best {

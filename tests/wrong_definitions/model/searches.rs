@@ -1,4 +1,4 @@
-//! `crates/searches/specs`: Search, Left; `crates/pelt/specs`: Detected.
+//! `crates/search_answer/specs`: Search, Left; `crates/pelt/specs`: Detected.
 
 use crate::admission::{passed, search_tests, Lengths};
 use crate::backtrack::cuts_of;

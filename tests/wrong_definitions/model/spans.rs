@@ -1,4 +1,4 @@
-//! `crates/spans/specs`: Reach, Slabs.
+//! `crates/candidate_sides/specs`: Reach, Slabs.
 
 use crate::elementary::sqrt;
 use crate::floats::{larger, smaller};

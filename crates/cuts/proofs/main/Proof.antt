@@ -1,8 +1,8 @@
--- `cuts::main` is safe: the output that `fields::answer` promises is a part of its bytes. Assumes nothing.
+-- `cuts::main` is safe: the output that `cuts_answer::answer` promises is a part of its bytes. Assumes nothing.
 use mathlib.Core.Path.{sym}
 use borrow.Author.Needs.{needs}
 use lib.Seq.{length-take-le}
-use Rattle.fields.proofs.AnswerLaws.{answer-inside}
+use Rattle.cuts_answer.proofs.AnswerLaws.{answer-inside}
 use Rattle.cuts.proofs.main.Statement.{statement}
 use Rattle.cuts.proofs.main.Tie as tie
 

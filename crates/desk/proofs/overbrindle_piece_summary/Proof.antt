@@ -1,6 +1,6 @@
 -- `desk::overbrindle_piece_summary` meets its contract: the summary. Assumes nothing.
 use mathlib.Core.Path.{ap, _∙_}
-use Rattle.told.specs.Told.{pieceOf}
+use Rattle.c_answers.specs.Told.{pieceOf}
 use Rattle.desk.proofs.overbrindle_piece_summary.Statement.{statement}
 use Rattle.desk.proofs.overbrindle_piece_summary.Tie as tie
 

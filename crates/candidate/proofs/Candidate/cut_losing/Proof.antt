@@ -3,7 +3,7 @@ use borrow.Author.Needs.{needs}
 use Rattle.candidate.proofs.Candidate.cut_losing.Statement.{statement}
 use Rattle.candidate.proofs.Candidate.cut_losing.Tie as tie
 use Rattle.candidate.specs.Cuts.{cutIn}
-use Rattle.losing.proofs.LosingLaws.{room-fits}
+use Rattle.candidate_balls.proofs.LosingLaws.{room-fits}
 use borrow.Author.Tests.{eq-eqb, ne-eqb}
 
 has-room-requires : tie.Need-has-room-requires

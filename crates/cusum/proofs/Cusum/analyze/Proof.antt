@@ -1,4 +1,4 @@
--- `cusum::Cusum::analyze` meets its contract: the walk of crate `walks`, at this chart's types, callees and definitions. Assumes nothing.
+-- `cusum::Cusum::analyze` meets its contract: the walk of crate `charts`, at this chart's types, callees and definitions. Assumes nothing.
 use mathlib.Core.Path.{refl}
 use Prim.Native.Nat.{ℕ}
 use mir.Syntax.{tnil}
@@ -12,7 +12,7 @@ use Rattle.charts.specs.declared.Charted.{Charted}
 use Rattle.charts.proofs.Answers.{within-both}
 use Rattle.charts.proofs.Loops.{analyzed}
 use Rattle.charts.proofs.ChartedKind.{KV, good-v}
-use Rattle.walks.proofs.Walk.{meets, Judge, Count, Start, Next}
+use Rattle.charts.proofs.Walk.{meets, Judge, Count, Start, Next}
 use Rattle.charts.proofs.count.Symbol as count-def
 use Rattle.charts.proofs.count.Met as count-thm
 use Rattle.cusum.specs.declared.Cusum.{Cusum}

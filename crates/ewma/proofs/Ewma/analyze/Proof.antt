@@ -1,4 +1,4 @@
--- `ewma::Ewma::analyze` meets its contract: the walk of crate `walks`, at this chart's types, callees and definitions. Assumes nothing.
+-- `ewma::Ewma::analyze` meets its contract: the walk of crate `charts`, at this chart's types, callees and definitions. Assumes nothing.
 use mathlib.Core.Path.{refl}
 use Prim.Native.Nat.{ℕ}
 use mir.Syntax.{Tys, tcons, tnil}
@@ -11,7 +11,7 @@ use Rattle.charts.specs.Answers.{admittedAs, countOf}
 use Rattle.charts.specs.declared.Charted.{Charted}
 use Rattle.charts.proofs.Answers.{within-both}
 use Rattle.charts.proofs.ChartedKind.{KV, good-v}
-use Rattle.walks.proofs.Walk.{meets, follows, Judge, Count, Start, Following}
+use Rattle.charts.proofs.Walk.{meets, follows, Judge, Count, Start, Following}
 use Rattle.charts.proofs.count.Symbol as count-def
 use Rattle.charts.proofs.count.Met as count-thm
 use Rattle.ewma.specs.declared.Ewma.{Ewma}

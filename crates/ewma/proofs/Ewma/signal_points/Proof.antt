@@ -6,7 +6,7 @@ use borrow.Author.Needs.{needs}
 use lib.ListN.{length, getD}
 use lib.Ieee.{nan}
 use denote.Ref.{now}
-use Rattle.walks.proofs.Runs.{following-is}
+use Rattle.charts.proofs.Runs.{following-is}
 use Rattle.charts.specs.Answers.{admittedAs, countOf}
 use Rattle.charts.proofs.Answers.{within-both, few-records}
 use Rattle.charts.proofs.Loops.{Marking, none-marked, marked-length, all-marked, one-more, marked}

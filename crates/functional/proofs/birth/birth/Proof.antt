@@ -4,7 +4,7 @@ use native.Mathlib.Nat.{le-trans}
 use Rattle.functional.proofs.birth.birth.Statement.{statement}
 use Rattle.functional.proofs.birth.birth.Tie as tie
 use denote.Ref.{now}
-use Rattle.readings.specs.Parts.{part}
+use Rattle.areas.specs.Parts.{part}
 use Rattle.functional.proofs.BallLaws.{balls-self}
 use Rattle.functional.proofs.BoxLaws.{range-wide}
 use Rattle.functional.proofs.BirthLaws.{within-pool, one-more, under-limit, width-fits, width-under, same-room, sane-still, joins}

@@ -6,8 +6,8 @@ use borrow.Author.Needs.{needs}
 use Rattle.functional.proofs.faces.face.Statement.{statement}
 use Rattle.functional.proofs.faces.face.Tie as tie
 use denote.Ref.{now}
-use Rattle.readings.specs.Parts.{part}
-use Rattle.readings.proofs.PartLaws.{read}
+use Rattle.areas.specs.Parts.{part}
+use Rattle.areas.proofs.PartLaws.{read}
 use Rattle.functional.proofs.FaceLaws.{mean-held, price-held, facing-from}
 
 add-float-at : tie.Need-add-float-at

@@ -7,8 +7,8 @@ use borrow.Author.Needs.{needs}
 use Rattle.functional.proofs.faces.face_all.Statement.{statement}
 use Rattle.functional.proofs.faces.face_all.Tie as tie
 use denote.Ref.{now}
-use Rattle.readings.specs.Parts.{part}
-use Rattle.dominance.specs.Functional.{facing}
+use Rattle.areas.specs.Parts.{part}
+use Rattle.search_rules.specs.Functional.{facing}
 use Rattle.functional.specs.Held.{task, slotAt, putFacing, Mapped}
 use Rattle.functional.proofs.SlotLaws.{mapped-none, mapped-more, mapped-all}
 

@@ -7,7 +7,7 @@ use borrow.Author.Needs.{needs}
 use Rattle.functional.proofs.losing.lose_all.Statement.{statement}
 use Rattle.functional.proofs.losing.lose_all.Tie as tie
 use denote.Ref.{now}
-use Rattle.dominance.specs.Functional.{innerBall}
+use Rattle.search_rules.specs.Functional.{innerBall}
 use Rattle.functional.specs.Held.{slotAt, facingAt, Balls, lostBy}
 use Rattle.functional.proofs.BallLaws.{balls-none, balls-long, lost-all}
 use Rattle.functional.proofs.BallLaws.{balls-met}

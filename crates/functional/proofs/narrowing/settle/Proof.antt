@@ -4,7 +4,7 @@ use native.Mathlib.Omega.{arith}
 use borrow.Author.Needs.{needs}
 use denote.Ref.{now}
 use Rattle.candidate.specs.Compared.{isDominated}
-use Rattle.dominance.specs.Functional.{cutBack}
+use Rattle.search_rules.specs.Functional.{cutBack}
 use Rattle.functional.specs.Held.{ballsIn, livedAt, BallsOf}
 use Rattle.functional.proofs.NarrowLaws.{settle-cut, settle-stored, settled-gone, settled-stays, balls-few}
 use Rattle.functional.proofs.narrowing.settle.Statement.{statement}

@@ -4,7 +4,7 @@ use native.Mathlib.Omega.{arith}
 use Rattle.functional.proofs.partition.partition_functional.Statement.{statement}
 use Rattle.functional.proofs.partition.partition_functional.Tie as tie
 use denote.Ref.{now}
-use Rattle.recurrence.proofs.RoomLaws.{fits-series}
+use Rattle.search_rules.proofs.RoomLaws.{fits-series}
 use Rattle.functional.proofs.PartitionLaws.{fit-one, fit-two, fit-search, partitioned, unfit}
 
 task-fits-requires : tie.Need-task-fits-requires

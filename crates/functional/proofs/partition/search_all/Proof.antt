@@ -6,7 +6,7 @@ use Rattle.functional.proofs.partition.search_all.Statement.{statement}
 use Rattle.functional.proofs.partition.search_all.Tie as tie
 use denote.Ref.{now}
 use Rattle.sums.proofs.ChannelLaws.{sums-small}
-use Rattle.recurrence.proofs.RoomLaws.{fits-series, fits-room}
+use Rattle.search_rules.proofs.RoomLaws.{fits-series, fits-room}
 use Rattle.functional.proofs.PartitionLaws.{range-of-task, plan-room, no-slot, ran}
 
 returns : tie.Need-returns

@@ -3,7 +3,7 @@ use borrow.Author.Needs.{needs}
 use Rattle.functional.proofs.partition.task_fits.Statement.{statement}
 use Rattle.functional.proofs.partition.task_fits.Tie as tie
 use borrow.Author.Tests.{le-leb, lt-leb}
-use Rattle.dominance.specs.Partitioned.{fitsTask}
+use Rattle.search_rules.specs.Partitioned.{fitsTask}
 
 search-fits-requires : tie.Need-search-fits-requires
 search-fits-requires c κs = search needs

@@ -5,7 +5,7 @@ use borrow.Author.Needs.{needs}
 use Rattle.functional.proofs.slots.copy_balls.Statement.{statement}
 use Rattle.functional.proofs.slots.copy_balls.Tie as tie
 use denote.Ref.{now}
-use Rattle.readings.proofs.PartLaws.{part-at}
+use Rattle.areas.proofs.PartLaws.{part-at}
 use Rattle.functional.proofs.SlotLaws.{balled}
 
 mul-base : tie.Need-mul-base

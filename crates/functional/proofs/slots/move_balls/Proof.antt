@@ -6,7 +6,7 @@ use borrow.Author.Needs.{needs}
 use Rattle.functional.proofs.slots.move_balls.Statement.{statement}
 use Rattle.functional.proofs.slots.move_balls.Tie as tie
 use denote.Ref.{now}
-use Rattle.readings.proofs.PartLaws.{part-at}
+use Rattle.areas.proofs.PartLaws.{part-at}
 use Rattle.functional.proofs.SlotLaws.{balled, copied-beyond}
 
 mul-base : tie.Need-mul-base

@@ -10,9 +10,9 @@ use Rattle.functional.proofs.steps.best_of.Tie as tie
 use denote.Ref.{now}
 use mathlib.Core.Bool.{true}
 use Rattle.floats.specs.Numbers.{_+ᶠ_}
-use Rattle.readings.specs.Parts.{part}
-use Rattle.recurrence.specs.Minimum.{scanTo}
-use Rattle.dominance.specs.Functional.{price}
+use Rattle.areas.specs.Parts.{part}
+use Rattle.search_rules.specs.Minimum.{scanTo}
+use Rattle.search_rules.specs.Functional.{price}
 use Rattle.functional.specs.Held.{task, taus}
 use Rattle.functional.proofs.StepLaws.{scanned-more}
 

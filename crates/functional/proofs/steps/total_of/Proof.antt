@@ -8,7 +8,7 @@ use Rattle.functional.proofs.steps.total_of.Tie as tie
 use denote.Ref.{now}
 use mathlib.Core.Path.{ap₂}
 use Rattle.floats.specs.Numbers.{_+ᶠ_}
-use Rattle.readings.proofs.PartLaws.{read}
+use Rattle.areas.proofs.PartLaws.{read}
 use Rattle.functional.proofs.FaceLaws.{price-held}
 
 add-float-at : tie.Need-add-float-at

@@ -7,7 +7,7 @@ use Rattle.inequality.proofs.normal.add_block.Statement.{statement}
 use Rattle.inequality.proofs.normal.add_block.Tie as tie
 use mathlib.Core.Path.{subst}
 use denote.Ref.{now}
-use Rattle.readings.specs.Parts.{part}
+use Rattle.areas.specs.Parts.{part}
 use Rattle.inequality.specs.Held.{AllBelow}
 use Rattle.inequality.proofs.WeightLaws.{block-added}
 

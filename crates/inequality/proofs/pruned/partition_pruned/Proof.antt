@@ -6,8 +6,8 @@ use Rattle.inequality.proofs.pruned.partition_pruned.Statement.{stateme
 use Rattle.inequality.proofs.pruned.partition_pruned.Tie as tie
 use denote.Ref.{now}
 use mathlib.Core.Bool.{true}
-use Rattle.recurrence.specs.Room.{searchFits}
-use Rattle.recurrence.proofs.RoomLaws.{Series, fits-series, fits-room}
+use Rattle.search_rules.specs.Room.{searchFits}
+use Rattle.search_rules.proofs.RoomLaws.{Series, fits-series, fits-room}
 use Rattle.sums.proofs.ChannelLaws.{sums-small}
 use Rattle.inequality.proofs.PrunedLaws.{plan-room, pruned-found, pruned-kept}
 

@@ -6,11 +6,11 @@ use lib.ListN.{length, getD}
 use borrow.Author.Needs.{needs}
 use Rattle.inequality.proofs.weights.old_count.Statement.{statement}
 use Rattle.inequality.proofs.weights.old_count.Tie as tie
-use Rattle.readings.specs.Parts.{part}
-use Rattle.readings.proofs.PartLaws.{part-length}
+use Rattle.areas.specs.Parts.{part}
+use Rattle.areas.proofs.PartLaws.{part-length}
 use denote.Ref.{now}
 use mathlib.Core.Bool.{false}
-use Rattle.pruning.specs.Inequality.{oldEnough}
+use Rattle.search_rules.specs.Inequality.{oldEnough}
 use Rattle.inequality.proofs.WeightLaws.{parted-here, parted-none, young-more}
 use native.Mathlib.Nat.{lt-irrefl, lt-of-lt-of-le}
 use mathlib.Core.Path.{subst}

@@ -3,7 +3,7 @@ use Prim.Native.Nat.{_-_}
 use borrow.Author.Needs.{needs}
 use Rattle.inequality.proofs.weights.old_enough.Statement.{statement}
 use Rattle.inequality.proofs.weights.old_enough.Tie as tie
-use Rattle.pruning.specs.Inequality.{oldEnough}
+use Rattle.search_rules.specs.Inequality.{oldEnough}
 
 sub-result : tie.Need-sub-result
 sub-result c = search needs

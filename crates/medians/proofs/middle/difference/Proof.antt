@@ -6,7 +6,7 @@ use lib.ListN.{length, take, length-set}
 use borrow.Author.Needs.{needs}
 use Rattle.medians.proofs.middle.difference.Statement.{statement}
 use denote.Ref.{now}
-use Rattle.readings.specs.Parts.{tab}
+use Rattle.areas.specs.Parts.{tab}
 use Rattle.medians.specs.Median.{differenceAt, differences}
 use Rattle.medians.proofs.MedianLaws.{differences-more, whole-front}
 use Rattle.medians.proofs.middle.difference.Tie as tie

@@ -7,7 +7,7 @@ use lib.Ieee.{ofBits}
 use borrow.Author.Needs.{needs}
 use Rattle.noise.proofs.variance.add_noise.Statement.{statement}
 use denote.Ref.{now}
-use Rattle.views.proofs.ViewLaws.{viewed-below}
+use Rattle.readings.proofs.ViewLaws.{viewed-below}
 use Rattle.noise.specs.Noise.{noiseSumTo, cleared}
 use Rattle.noise.proofs.NoiseLaws.{has-room, place-cleared, channel-lent, sum-more, cleared-length}
 use Rattle.noise.proofs.variance.add_noise.Tie as tie

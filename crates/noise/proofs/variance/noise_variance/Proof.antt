@@ -10,7 +10,7 @@ use denote.Ref.{now}
 use Rattle.floats.specs.Numbers.{ratio}
 use Rattle.floats.specs.MaxMin.{larger}
 use Rattle.floats.proofs.Order.Zero.{zero-by-zero}
-use Rattle.extremes.specs.declared.Range.{Range}
+use Rattle.ranges.specs.declared.Range.{Range}
 use Rattle.noise.specs.Noise.{spreadOf, floorOf, hasRoom}
 use Rattle.noise.proofs.NoiseLaws.{has-room, noise-of-few, noise-of-many, nothing-cleared, part-median, part-cleared, lent-found, lent-nothing}
 use mathlib.Core.Bool.{true}

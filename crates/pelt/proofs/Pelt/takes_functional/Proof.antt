@@ -3,7 +3,7 @@ use borrow.Author.Needs.{needs}
 use Rattle.pelt.proofs.Pelt.takes_functional.Statement.{statement}
 use Rattle.pelt.proofs.Pelt.takes_functional.Tie as tie
 use Rattle.costs.specs.declared.CostFunction.{CostFunction}
-use Rattle.searches.specs.Search.{takesFunctional}
+use Rattle.search_answer.specs.Search.{takesFunctional}
 
 enum-told : tie.Need-enum-told
 enum-told c = search needs

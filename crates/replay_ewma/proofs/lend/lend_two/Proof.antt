@@ -1,4 +1,4 @@
--- `replay_ewma::lend::lend_two` is safe and ends: the walk of crate `walks`, `proofs/ByValue`, at EWMA's types and 2 records. Assumes nothing.
+-- `replay_ewma::lend::lend_two` is safe and ends: the walk of crate `charts`, `proofs/ByValue`, at EWMA's types and 2 records. Assumes nothing.
 use mathlib.Core.Path.{refl, _∙_}
 use mathlib.Core.List.{List, [], _∷_, map}
 use lib.Dec.{lit<}
@@ -13,10 +13,10 @@ use denote.Triple.Spec.{tripleOf}
 use denote.Triple.Table.{entered, cited}
 use Rattle.charts.specs.Answers.{countOf}
 use Rattle.charts.specs.declared.Charted.{Charted}
-use Rattle.walks.proofs.Plain.{Kind, Good, kindOf, rowOf, vals}
+use Rattle.charts.proofs.Plain.{Kind, Good, kindOf, rowOf, vals}
 use Rattle.charts.proofs.Loops.{analyzed-is}
 use Rattle.charts.proofs.ChartedKind.{KV, good-v}
-use Rattle.walks.proofs.ByValue.{meets, Analyze}
+use Rattle.charts.proofs.ByValue.{meets, Analyze}
 use Rattle.ewma.specs.Chart.{accepted, fresh, itself, nextRecord, Analyzed}
 use Rattle.ewma.specs.declared.EwmaResult.{EwmaResult}
 use Rattle.ewma.proofs.EwmaResult as R

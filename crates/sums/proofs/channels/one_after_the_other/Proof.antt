@@ -6,13 +6,13 @@ use lib.ListN.{length}
 use borrow.Author.Needs.{needs}
 use Rattle.sums.proofs.channels.one_after_the_other.Statement.{statement}
 use Rattle.sums.proofs.channels.one_after_the_other.Tie as tie
-use Rattle.readings.specs.Parts.{Frame}
-use Rattle.readings.proofs.PartLaws.{frame-refl, frame-trans, frame-wide}
+use Rattle.areas.specs.Parts.{Frame}
+use Rattle.areas.proofs.PartLaws.{frame-refl, frame-trans, frame-wide}
 use Rattle.sums.specs.EachChannel.{Sums}
 use Rattle.sums.proofs.ChannelLaws.{mul-more, mul-room, channel-long, sums-none, sums-more}
 use native.Mathlib.Nat.{zero-mul}
 use denote.Ref.{now}
-use Rattle.views.proofs.ViewLaws.{viewed-below}
+use Rattle.readings.proofs.ViewLaws.{viewed-below}
 use mathlib.Core.Path.{subst}
 
 abbrev Inv-loop : tie.InvT-loop

@@ -1,0 +1,66 @@
+-- What is told of an answer in plain numbers. Definitions only.
+use Prim.Native.Nat.{ℕ}
+use mathlib.Core.Path.{_≡_}
+use mathlib.Core.Bool.{Bool, not, cond}
+use mathlib.Core.List.{List, [], _∷_}
+use lib.Dec.{ltb, eqb}
+use lib.ListN.{getD}
+use lib.Ieee.{Float}
+use Rattle.floats.specs.Numbers.{+0}
+use Rattle.refusals.specs.Stated.{stated}
+use Rattle.refusals.specs.Said.{Said, refused, answered, tried}
+use Rattle.refusals.specs.declared.Refusal.the-variants as Refusal
+use Rattle.charts.specs.declared.Signalled.{Signalled}
+use Rattle.charts.specs.Answers.{signalled}
+use Rattle.charts.specs.Contracts.{Marked}
+use Rattle.cusum.specs.declared.Cusum.{Cusum}
+use Rattle.cusum.specs.declared.Side.{Side}
+use Rattle.cusum.specs.declared.Side.the-variants as Side
+use Rattle.cusum.specs.RunLength.{runLength}
+use Rattle.piece.specs.declared.Summarised.{Summarised}
+use Rattle.piece.specs.declared.Summarised.the-variants as Summarised
+use Rattle.c_answers.specs.declared.Told.{Told}
+use Rattle.c_answers.specs.declared.Counted.{Counted}
+use Rattle.c_answers.specs.declared.ToldPiece.{ToldPiece}
+
+-- the parts of an answer, as a call hands them back one by one
+abbrev pub toldAs : ℕ → ℕ → ℕ → ℕ → Told
+toldAs number count channel index = record { number = number; count = count; channel = channel; index = index }
+
+-- a result is 0 and its first value, a refusal its number and its two values; 0 where there is none
+unfoldable pub toldOf : Said → Told
+toldOf (answered values) = toldAs 0 (getD values 0 0) 0 0
+toldOf (refused s) = toldAs (s .number) 0 (getD (s .values) 0 0) (getD (s .values) 1 0)
+
+-- the parts of an answer without a place, such an answer of one with it, and what is told so
+abbrev pub countedAs : ℕ → ℕ → Counted
+countedAs number count = record { number = number; count = count }
+
+abbrev pub briefly : Told → Counted
+briefly t = countedAs (t .number) (t .count)
+
+abbrev pub countedOf : Said → Counted
+countedOf s = briefly (toldOf s)
+
+-- the parts of a piece's summary
+abbrev pub pieceAs : ℕ → ℕ → Float → Float → ToldPiece
+pieceAs number size mean spread = record { number = number; length = size; mean = mean; spread = spread }
+
+-- the values of a summary, or the refusal's number with zeros
+unfoldable pub pieceOf : Summarised → ToldPiece
+pieceOf (Summarised.Piece p) = pieceAs 0 (p .length) (p .mean) (p .spread)
+pieceOf (Summarised.Refused r) = pieceAs (stated r .number) 0 +0 +0
+
+-- 0 is the upper side, 1 the lower
+unfoldable pub sideOf : ℕ → Side
+sideOf side = cond (eqb side 0) Side.Upper Side.Lower
+
+-- 10 for any other number, and then what the run length says
+unfoldable pub runLengthOf : Cusum → Float → ℕ → Said
+runLengthOf c level side = tried ((not (ltb side 2), Refusal.Form) ∷ []) (runLength c level (sideOf side))
+
+-- what `signal_points` of n readings answers and leaves (`charts/specs/Contracts`), told in numbers
+pub record ToldMarks (accepted : Bool) (n : ℕ) (points entry exit : List ℕ) (t : Counted) : Type 0 where
+  pub answer : Signalled
+  pub told : t ≡ countedOf (signalled answer)
+  pub left : Marked accepted n points entry answer exit

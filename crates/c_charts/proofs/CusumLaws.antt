@@ -1,0 +1,65 @@
+-- The loop that fills the arrays of a CUSUM chart: they have room, their lengths stay, and one reading more. Assumes nothing.
+use mathlib.Core.Path.{_≡_}
+use Prim.Native.Nat.{ℕ, _+_, _≤_, _<_}
+use mathlib.Core.Bool.{Bool}
+use mathlib.Core.List.{List}
+use native.Mathlib.Omega.{arith}
+use lib.ListN.{length, set}
+use lib.Ieee.{Float, nan}
+use Rattle.charts.proofs.Answers.{within-both}
+use Rattle.charts.proofs.Columns.{Going, filled-length, one-gone, one-filled, all-filled}
+use Rattle.cusum.specs.declared.Cusum.{Cusum}
+use Rattle.cusum.specs.declared.State.{State}
+use Rattle.cusum.specs.Chart.{shownOf, startState, nextState, followingState}
+use Rattle.c_charts.specs.Columns.{writtenRecords}
+use Rattle.c_charts.specs.CusumColumns.{upperOf, lowerOf, signalOf, indexOf, Filled, roomOf}
+use Rattle.c_charts.proofs.Lengths.{shortest-least}
+
+-- every array has room for n records
+pub record Room (n : ℕ) (upper lower : List Float) (signal index : List ℕ) : Type 0 where
+  pub upper-room : n ≤ length upper
+  pub lower-room : n ≤ length lower
+  pub signal-room : n ≤ length signal
+  pub index-room : n ≤ length index
+
+-- so many records as are written have room
+pub written-room : (ok : Bool) (n : ℕ) (upper lower : List Float) (signal index : List ℕ) → let k = writtenRecords ok n (roomOf upper lower signal index) in (k ≤ n) × Room k upper lower signal index
+written-room ok n upper lower signal index =
+    let k = within-both ok n (roomOf upper lower signal index) in
+    let s = shortest-least (length upper) (length lower) (length signal) (length index) in
+    (k .0, record { upper-room = omega (arith, k .1, s .0); lower-room = omega (arith, k .1, s .1); signal-room = omega (arith, k .1, s .2); index-room = omega (arith, k .1, s .3) })
+
+module _ {c : Cusum} {xs : List Float} {n i : ℕ} {upper upper′ lower lower′ : List Float} {signal signal′ index index′ : List ℕ} {s : State}
+    (room : Room n upper lower signal index) (g : Going shownOf startState nextState c xs n s i) (f : Filled c xs i upper upper′ lower lower′ signal signal′ index index′) where
+  pub upper-length : length upper′ ≡ length upper
+  upper-length = filled-length shownOf startState nextState c xs n upperOf i upper upper′ (g .within) (room .upper-room) (f .upper-left)
+
+  pub lower-length : length lower′ ≡ length lower
+  lower-length = filled-length shownOf startState nextState c xs n lowerOf i lower lower′ (g .within) (room .lower-room) (f .lower-left)
+
+  pub signal-length : length signal′ ≡ length signal
+  signal-length = filled-length shownOf startState nextState c xs n signalOf i signal signal′ (g .within) (room .signal-room) (f .signal-left)
+
+  pub index-length : length index′ ≡ length index
+  index-length = filled-length shownOf startState nextState c xs n indexOf i index index′ (g .within) (room .index-room) (f .index-left)
+
+  pub all-done : n ≤ i → Filled c xs n upper upper′ lower lower′ signal signal′ index index′
+  all-done h =
+      record {
+        upper-left = all-filled shownOf startState nextState c xs n upperOf upper upper′ s i g h (f .upper-left);
+        lower-left = all-filled shownOf startState nextState c xs n lowerOf lower lower′ s i g h (f .lower-left);
+        signal-left = all-filled shownOf startState nextState c xs n signalOf signal signal′ s i g h (f .signal-left);
+        index-left = all-filled shownOf startState nextState c xs n indexOf index index′ s i g h (f .index-left);
+      }
+
+  pub one-more : (readings : n ≤ length xs) (below : i < n) (s′ : State) → s′ ≡ followingState c xs i s
+      → Going shownOf startState nextState c xs n s′ (i + 1) × Filled c xs (i + 1) upper (set upper′ i (upperOf (s′ .shown))) lower (set lower′ i (lowerOf (s′ .shown))) signal (set signal′ i (signalOf (s′ .shown))) index (set index′ i (indexOf (s′ .shown)))
+  one-more readings below s′ e = (
+    one-gone shownOf startState nextState c xs n s i g s′ readings below e,
+    record {
+      upper-left = one-filled shownOf startState nextState c xs n s i g s′ readings below e upperOf nan upper upper′ (room .upper-room) (f .upper-left);
+      lower-left = one-filled shownOf startState nextState c xs n s i g s′ readings below e lowerOf nan lower lower′ (room .lower-room) (f .lower-left);
+      signal-left = one-filled shownOf startState nextState c xs n s i g s′ readings below e signalOf 0 signal signal′ (room .signal-room) (f .signal-left);
+      index-left = one-filled shownOf startState nextState c xs n s i g s′ readings below e indexOf 0 index index′ (room .index-room) (f .index-left);
+    },
+  )

@@ -1,0 +1,73 @@
+-- The loop that fills the arrays of an EWMA chart: they have room, their lengths stay, and one reading more. Assumes nothing.
+use mathlib.Core.Path.{_≡_}
+use Prim.Native.Nat.{ℕ, _+_, _≤_, _<_}
+use mathlib.Core.Bool.{Bool}
+use mathlib.Core.List.{List}
+use native.Mathlib.Omega.{arith}
+use lib.ListN.{length, set}
+use lib.Ieee.{Float, nan}
+use Rattle.charts.proofs.Answers.{within-both}
+use Rattle.charts.specs.Runs.{following}
+use Rattle.charts.proofs.Columns.{Going, filled-length, one-gone, one-filled, all-filled}
+use Rattle.ewma.specs.declared.Ewma.{Ewma}
+use Rattle.ewma.specs.declared.EwmaResult.{EwmaResult}
+use Rattle.ewma.specs.Chart.{fresh, itself, nextRecord}
+use Rattle.c_charts.specs.Columns.{shorter, writtenRecords}
+use Rattle.c_charts.specs.EwmaColumns.{ewmaOf, uclOf, lclOf, signalOf, indexOf, Filled, roomOf}
+use Rattle.c_charts.proofs.Lengths.{shorter-least, shortest-least}
+
+-- every array has room for n records
+pub record Room (n : ℕ) (ewma ucl lcl : List Float) (signal index : List ℕ) : Type 0 where
+  pub ewma-room : n ≤ length ewma
+  pub ucl-room : n ≤ length ucl
+  pub lcl-room : n ≤ length lcl
+  pub signal-room : n ≤ length signal
+  pub index-room : n ≤ length index
+
+-- so many records as are written have room
+pub written-room : (ok : Bool) (n : ℕ) (ewma ucl lcl : List Float) (signal index : List ℕ) → let k = writtenRecords ok n (roomOf ewma ucl lcl signal index) in (k ≤ n) × Room k ewma ucl lcl signal index
+written-room ok n ewma ucl lcl signal index =
+    let k = within-both ok n (roomOf ewma ucl lcl signal index) in
+    let h = shorter-least (length ewma) (length ucl) in
+    let s = shortest-least (shorter (length ewma) (length ucl)) (length lcl) (length signal) (length index) in
+    (k .0, record { ewma-room = omega (arith, k .1, s .0, h .0); ucl-room = omega (arith, k .1, s .0, h .1); lcl-room = omega (arith, k .1, s .1); signal-room = omega (arith, k .1, s .2); index-room = omega (arith, k .1, s .3) })
+
+module _ {c : Ewma} {xs : List Float} {n i : ℕ} {ewma ewma′ ucl ucl′ lcl lcl′ : List Float} {signal signal′ index index′ : List ℕ} {s : EwmaResult}
+    (room : Room n ewma ucl lcl signal index) (g : Going itself fresh nextRecord c xs n s i) (f : Filled c xs i ewma ewma′ ucl ucl′ lcl lcl′ signal signal′ index index′) where
+  pub ewma-length : length ewma′ ≡ length ewma
+  ewma-length = filled-length itself fresh nextRecord c xs n ewmaOf i ewma ewma′ (g .within) (room .ewma-room) (f .ewma-left)
+
+  pub ucl-length : length ucl′ ≡ length ucl
+  ucl-length = filled-length itself fresh nextRecord c xs n uclOf i ucl ucl′ (g .within) (room .ucl-room) (f .ucl-left)
+
+  pub lcl-length : length lcl′ ≡ length lcl
+  lcl-length = filled-length itself fresh nextRecord c xs n lclOf i lcl lcl′ (g .within) (room .lcl-room) (f .lcl-left)
+
+  pub signal-length : length signal′ ≡ length signal
+  signal-length = filled-length itself fresh nextRecord c xs n signalOf i signal signal′ (g .within) (room .signal-room) (f .signal-left)
+
+  pub index-length : length index′ ≡ length index
+  index-length = filled-length itself fresh nextRecord c xs n indexOf i index index′ (g .within) (room .index-room) (f .index-left)
+
+  pub all-done : n ≤ i → Filled c xs n ewma ewma′ ucl ucl′ lcl lcl′ signal signal′ index index′
+  all-done h =
+      record {
+        ewma-left = all-filled itself fresh nextRecord c xs n ewmaOf ewma ewma′ s i g h (f .ewma-left);
+        ucl-left = all-filled itself fresh nextRecord c xs n uclOf ucl ucl′ s i g h (f .ucl-left);
+        lcl-left = all-filled itself fresh nextRecord c xs n lclOf lcl lcl′ s i g h (f .lcl-left);
+        signal-left = all-filled itself fresh nextRecord c xs n signalOf signal signal′ s i g h (f .signal-left);
+        index-left = all-filled itself fresh nextRecord c xs n indexOf index index′ s i g h (f .index-left);
+      }
+
+  pub one-more : (readings : n ≤ length xs) (below : i < n) (s′ : EwmaResult) → s′ ≡ following nextRecord c xs i s
+      → Going itself fresh nextRecord c xs n s′ (i + 1) × Filled c xs (i + 1) ewma (set ewma′ i (ewmaOf s′)) ucl (set ucl′ i (uclOf s′)) lcl (set lcl′ i (lclOf s′)) signal (set signal′ i (signalOf s′)) index (set index′ i (indexOf s′))
+  one-more readings below s′ e = (
+    one-gone itself fresh nextRecord c xs n s i g s′ readings below e,
+    record {
+      ewma-left = one-filled itself fresh nextRecord c xs n s i g s′ readings below e ewmaOf nan ewma ewma′ (room .ewma-room) (f .ewma-left);
+      ucl-left = one-filled itself fresh nextRecord c xs n s i g s′ readings below e uclOf nan ucl ucl′ (room .ucl-room) (f .ucl-left);
+      lcl-left = one-filled itself fresh nextRecord c xs n s i g s′ readings below e lclOf nan lcl lcl′ (room .lcl-room) (f .lcl-left);
+      signal-left = one-filled itself fresh nextRecord c xs n s i g s′ readings below e signalOf 0 signal signal′ (room .signal-room) (f .signal-left);
+      index-left = one-filled itself fresh nextRecord c xs n s i g s′ readings below e indexOf 0 index index′ (room .index-room) (f .index-left);
+    },
+  )

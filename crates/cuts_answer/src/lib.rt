@@ -1,0 +1,25 @@
+// The program `cuts` as a function: the bytes of its input to the bytes of its output.
+//
+// The input is tagged fields that ask for a search; the output is the cuts, or the number of a
+// refusal. Every input has an answer, damaged ones too. Crate `cuts_input` says which bytes ask for which
+// search, crate `cuts_output` how an answer is written, and `specs/Answer` what `answer` promises: exactly
+// one output for each input. `specs/Held` is for the private functions.
+mod printing;
+
+ghost use Rattle.cuts_answer.specs.Answer.{Answered};
+
+// An output: so many bytes at the front, and zeros behind them.
+pub struct Printed {
+    pub bytes: [u8; 10841],
+    pub length: usize,
+}
+
+// What the program writes for this input. Cost: one turn for each byte, the search, and one turn for
+// each digit of the output.
+pub fn answer(input: &[u8]) -> Printed
+    ensures { λ r. ⌜ Answered (now (input .entry)) r ⌝ }
+{
+    let mut bytes = [0; 10841];
+    let length = printing::print_answer(input, &mut bytes);
+    Printed { bytes, length }
+}

@@ -1,3 +1,0 @@
-pub mod Examples
-pub mod SoundLaws
-pub mod PeakLaws

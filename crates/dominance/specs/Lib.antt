@@ -1,2 +1,0 @@
-pub mod Functional
-pub mod Partitioned

@@ -1,2 +1,0 @@
-pub mod Extremes
-pub mod Blocks

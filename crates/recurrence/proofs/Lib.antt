@@ -1,4 +1,0 @@
-pub mod All
-pub mod MinimumLaws
-pub mod PredecessorLaws
-pub mod RoomLaws

@@ -1,3 +1,0 @@
-pub mod Minimum
-pub mod Predecessors
-pub mod Room

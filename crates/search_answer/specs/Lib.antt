@@ -1,0 +1,4 @@
+pub mod Tests
+pub mod Search
+pub mod Left
+pub mod Demand

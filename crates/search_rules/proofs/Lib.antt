@@ -1,0 +1,9 @@
+pub mod FunctionalExamples
+pub mod FunctionalLaws
+pub mod PeakLaws
+pub mod InequalityLaws
+pub mod InequalityExamples
+pub mod All
+pub mod MinimumLaws
+pub mod PredecessorLaws
+pub mod RoomLaws

@@ -1,0 +1,52 @@
+-- The most living candidates that there have been: it is the greatest of their numbers, so slots that are too few at some step are too few for the search. Assumes nothing.
+use Prim.Native.Nat.{ℕ, zero, suc, _+_, _-_, _≤_, _<_, max}
+use mathlib.Core.Path.{_≡_, refl}
+use mathlib.Core.Bool.{true, false}
+use native.Mathlib.Nat.{le-refl, le-trans, zero-add, le-max-left, le-max-right, max-le}
+use native.Mathlib.Numerals.{add-one}
+use native.Mathlib.Omega.{arith}
+use borrow.Author.Tests.{le-leb, lt-leb}
+use lib.Dec.{leb}
+use lib.ListN.{length}
+use Rattle.search_rules.specs.Functional.{Task, stepOf, stateAfter, functional}
+
+-- ---- one step more
+peak-next : (k : Task) (d : ℕ) → stateAfter k (suc d) .peak ≡ max (stateAfter k d .peak) (length (stateAfter k (suc d) .living))
+unfolding stateAfter stepOf
+peak-next k d = refl
+
+-- in the form of a loop: slots that were enough are enough where the candidates of this step have some
+pub peak-within : (k : Task) (d slots : ℕ) → stateAfter k d .peak ≤ slots → length (stateAfter k (d + 1) .living) ≤ slots → stateAfter k (d + 1) .peak ≤ slots
+peak-within k d slots h l = rw (add-one, peak-next k d) (max-le h (rw (← add-one) l))
+
+-- ---- the greatest of the numbers of living candidates: it never falls, is never below them, and is no more than what they all are within
+pub peak-rises : (k : Task) (d e : ℕ) → stateAfter k d .peak ≤ stateAfter k (d + e) .peak
+peak-rises k d zero = let q : d + 0 ≡ d = omega arith in rw q (le-refl _)
+peak-rises k d (suc e) = let q : d + suc e ≡ suc (d + e) = omega arith in rw (q, peak-next k (d + e)) (le-trans (peak-rises k d e) (le-max-left _ _))
+
+pub peak-covers : (k : Task) (d : ℕ) → length (stateAfter k d .living) ≤ stateAfter k d .peak
+unfolding stateAfter
+peak-covers k zero = le-refl _
+peak-covers k (suc d) = rw (peak-next k d) (le-max-right _ _)
+
+pub peak-least : (k : Task) (d slots : ℕ) → ((e : ℕ) → e ≤ d → length (stateAfter k e .living) ≤ slots) → stateAfter k d .peak ≤ slots
+unfolding stateAfter
+peak-least k zero slots f = f 0 (le-refl _)
+peak-least k (suc d) slots f = rw (peak-next k d) (max-le (peak-least k d slots (λ e h. f e (omega arith))) (f (suc d) (le-refl _)))
+
+-- there is one at the start
+pub peak-some : (k : Task) (d : ℕ) → 1 ≤ stateAfter k d .peak
+unfolding stateAfter
+peak-some k d = rw zero-add at (peak-rises k 0 d)
+
+-- ---- the slots of the whole search
+pub slots-too-few : (k : Task) (d slots : ℕ) → d ≤ k .n + 1 - k .m → slots < length (stateAfter k d .living) → leb (functional k .peak) slots ≡ false
+unfolding functional
+slots-too-few k d slots h l =
+    let q : d + (k .n + 1 - k .m - d) ≡ k .n + 1 - k .m = omega arith in
+    let rises : stateAfter k d .peak ≤ stateAfter k (k .n + 1 - k .m) .peak = rw (← q) (peak-rises k d _) in
+    lt-leb _ _ (le-trans l (le-trans (peak-covers k d) rises))
+
+pub slots-enough : (k : Task) (slots : ℕ) → stateAfter k (k .n + 1 - k .m) .peak ≤ slots → leb (functional k .peak) slots ≡ true
+unfolding functional
+slots-enough k slots h = le-leb _ _ h

@@ -1,0 +1,32 @@
+-- The first strict minimum in scan order. Definitions only.
+use Prim.Native.Nat.{ℕ, zero, suc}
+use mathlib.Core.Bool.{Bool, cond}
+use mathlib.Core.List.{List, [], _∷_, _++_}
+use lib.ListN.{getD}
+use lib.Ieee.{Float}
+use Rattle.floats.specs.Numbers.{_<ᶠ_, +∞}
+use Rattle.search_rules.specs.declared.Best.{Best}
+
+-- with no total below infinity the predecessor is 0
+unfoldable pub noneYet : Best
+noneYet = record { cost = +∞; tau = 0 }
+
+-- a total that is strictly below the lowest so far takes its place
+unfoldable pub betterOf : Best → Float → ℕ → Best
+betterOf best total tau = cond (total <ᶠ best .cost) (record { cost = total; tau = tau }) best
+
+-- the best of the first j candidates, of those that take part
+unfoldable pub scanTo : (ℕ → Bool) → (ℕ → Float) → List ℕ → ℕ → Best
+scanTo takesPart total candidates zero = noneYet
+scanTo takesPart total candidates (suc j) =
+    let before = scanTo takesPart total candidates j in
+    let tau = getD candidates j 0 in
+    cond (takesPart tau) (betterOf before (total tau) tau) before
+
+-- those of the first j candidates that stay, in their order
+unfoldable pub keptTo : (ℕ → Bool) → List ℕ → ℕ → List ℕ
+keptTo stays candidates zero = []
+keptTo stays candidates (suc j) =
+    let before = keptTo stays candidates j in
+    let tau = getD candidates j 0 in
+    cond (stays tau) (before ++ (tau ∷ [])) before

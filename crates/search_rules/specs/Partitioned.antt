@@ -1,0 +1,37 @@
+-- What `partition_functional` answers and leaves. Definitions only.
+use Prim.Native.Nat.{ℕ, _+_, _-_, _/_}
+use mathlib.Core.Path.{_≡_}
+use mathlib.Core.Bool.{Bool, true, false, _&&_, cond}
+use mathlib.Core.List.{List, _++_}
+use lib.Dec.{leb}
+use lib.ListN.{length, replicate}
+use lib.Ieee.{Float}
+use Rattle.floats.specs.Numbers.{+0}
+use Rattle.search_rules.specs.Room.{searchFits}
+use Rattle.search_rules.specs.Functional.{Task, functional}
+
+-- one or two channels of a run of so many readings, and the work floats and indices of a search
+unfoldable pub fitsTask : ℕ → ℕ → ℕ → ℕ → ℕ → ℕ → Bool
+fitsTask run n channels m floats indices = leb 1 channels && (leb channels 2 && searchFits run n channels m floats indices)
+
+abbrev pub taskFits : Task → ℕ → ℕ → Bool
+taskFits k floats indices = fitsTask (length (k .run)) (k .n) (k .channels) (k .m) floats indices
+
+-- a slot is 200 floats, and slots are whole ones: there are enough for the most living candidates
+unfoldable pub slotsSuffice : Task → ℕ → Bool
+slotsSuffice k pool = leb (functional k .peak) (pool / 200)
+
+-- the predecessors and zeros after them where there were slots enough, and zeros alone where there were not
+unfoldable pub indicesAfter : Task → ℕ → ℕ → List ℕ
+indicesAfter k pool indices = cond (slotsSuffice k pool) (functional k .last ++ replicate (indices - (k .n + 1)) 0) (replicate indices 0)
+
+-- whether there were slots enough; the predecessors at the front of the indices, and zero everywhere else; `false` and all areas as they were where the search does not fit
+pub record Partitioned (k : Task) (floats floats′ : List Float) (indices indices′ : List ℕ) (pool pool′ : List Float) (r : Bool) : Type 0 where
+  pub answer : taskFits k (length floats) (length indices) ≡ true → r ≡ slotsSuffice k (length pool)
+  pub found : taskFits k (length floats) (length indices) ≡ true → indices′ ≡ indicesAfter k (length pool) (length indices)
+  pub floats-cleared : taskFits k (length floats) (length indices) ≡ true → floats′ ≡ replicate (length floats) +0
+  pub pool-cleared : taskFits k (length floats) (length indices) ≡ true → pool′ ≡ replicate (length pool) +0
+  pub unfit : taskFits k (length floats) (length indices) ≡ false → r ≡ false
+  pub indices-kept : taskFits k (length floats) (length indices) ≡ false → indices′ ≡ indices
+  pub floats-kept : taskFits k (length floats) (length indices) ≡ false → floats′ ≡ floats
+  pub pool-kept : taskFits k (length floats) (length indices) ≡ false → pool′ ≡ pool

@@ -1,4 +1,0 @@
-pub mod Examples
-pub mod CutLaws
-pub mod Outcomes
-pub mod FrontLaws

@@ -1,0 +1,128 @@
+-- The two tables hold, by computation. Assumes nothing.
+use mathlib.Core.Path.{_≡_, refl, sym, ap₂, _∙_}
+use mathlib.Core.List.{List, _++_, map-append}
+use lib.ListN.{length}
+use lib.Ieee.{neg, isNan, eq, ne, lt, le, size, add, sub, mul, div, ofInt, ofBits}
+use Rattle.floats.specs.Numbers.{ratio}
+use Rattle.floats.specs.Finite.{abs}
+use Rattle.floats.specs.MaxMin.{larger, smaller}
+use Rattle.floats.specs.Ahead.{ahead}
+use Rattle.elementary.specs.Root.{sqrt}
+use Rattle.elementary.specs.Power.{powi, powFrom}
+use Rattle.elementary.specs.Logarithm.{ln, lnScaled, lnOf, series}
+use Rattle.refusals.specs.Said.{tried}
+use Rattle.areas.specs.Parts.{part, tab}
+use Rattle.readings.specs.Shape.{totalTo, sameTo, shapeTests}
+use Rattle.readings.specs.Gaps.{gapTo, channelAt, indexAt}
+use Rattle.readings.specs.Channels.{hasChannel, channelOf}
+use Rattle.sums.specs.Sums.{sumTo, meanOf, centred, centredTo, squaresTo}
+use Rattle.ranges.specs.Ranges.{lowestTo, highestTo, rangeOf}
+use Rattle.medians.specs.Order.{insert, sorted}
+use Rattle.medians.specs.Median.{differenceAt, differences, median}
+use Rattle.noise.specs.Noise.{spreadOf, floorOf, noise, noiseSumTo}
+use Rattle.costs.specs.Costs.{segmentAbout, segmentOf, l2Cost, smallestNormal, normalCost, costOf, costTo}
+use Rattle.costs.specs.Penalties.{bicPenalty, penaltyOf}
+use Rattle.search_rules.specs.Minimum.{noneYet, betterOf, scanTo, keptTo}
+use Rattle.search_rules.specs.Inequality as Inequality
+use Rattle.candidate.specs.Boxes.{spanAt, withSpan, overChannels, alongEach, gap2, narrowed, missed, nothing, restrict}
+use Rattle.candidate.specs.Cuts.{far2, inside, moved, cutEnds, cutSpan, cutBy, cutTo, cutLosing}
+use Rattle.candidate.specs.Compared.{isDominated}
+use Rattle.candidate.specs.Losses.{narrowestTo, displace, loseInside}
+use Rattle.search_rules.specs.Functional.{price, places, bestAt, centreAlong, besides, slackOf, facing, lostTo, restricted, cutBack, winnersTo, rangeAlong, rangeBox, born, joinedBy, joinOf, livingAfter, stepOf, stateAfter, functional}
+use Rattle.backtrack.specs.Cuts.{predecessorOf, backFrom, cutsOf}
+use Rattle.search_answer.specs.Tests.{badPenalty, shortRoom, roomTests, searchTests, passed}
+use Rattle.search_answer.specs.Search.{penaltyValue, prunedCuts, functionalCuts, takesFunctional, cutsBy, cutsWith, cutsFound}
+use Rattle.search_answer.specs.Left.{foundSaid, cutsLeft, areaLeft}
+use Rattle.charts.specs.Answers.{chartAnswer}
+use Rattle.cusum.specs.Chart as Cusum
+use Rattle.cusum.specs.RunLength.{heardFrom, heard, runLength}
+use Rattle.ewma.specs.Chart as Ewma
+use Rattle.worked_examples.specs.Calls.{Call, Outcome, areasLeft, searchOutcome, resolvedBy, writtenBy, outcome}
+use Rattle.worked_examples.specs.Rows.{Row, Hold, sumsFrom, averagesFrom, ballsFrom}
+use Rattle.worked_examples.specs.Marked.{markedRows}
+use Rattle.worked_examples.specs.Further.{functionalRows, slackRows, roundingRows, furtherRoundingRows, inequalityRows, noiseRows, penaltyRows, refusalRows, chartRows, ballRows, furtherRows}
+
+-- an outcome, opened: to unfold it is to unfold all that the line names
+opened : Call → Outcome
+unfolding outcome searchOutcome resolvedBy areasLeft writtenBy ballsFrom sumsFrom averagesFrom chartAnswer Cusum.stepOf Cusum.newOf Cusum.accepted heardFrom heard runLength Ewma.stepOf Ewma.newOf Ewma.accepted Ewma.halfWidth
+    searchTests roomTests shortRoom badPenalty shapeTests totalTo sameTo gapTo channelAt indexAt tried passed
+    cutsFound cutsWith cutsBy takesFunctional functionalCuts prunedCuts penaltyValue penaltyOf bicPenalty foundSaid cutsLeft areaLeft cutsOf backFrom predecessorOf
+    noiseSumTo noise spreadOf floorOf median differences differenceAt sorted insert tab
+    functional stateAfter stepOf livingAfter joinOf joinedBy born rangeBox rangeAlong winnersTo cutBack restricted lostTo facing slackOf besides centreAlong bestAt places price
+    Inequality.oldEnough Inequality.partOf Inequality.bestAt Inequality.staysAt Inequality.stepOf Inequality.stateAfter Inequality.predecessors Inequality.price
+    scanTo betterOf noneYet keptTo costTo costOf l2Cost normalCost smallestNormal segmentOf segmentAbout channelOf hasChannel part meanOf sumTo centred centredTo squaresTo
+    lowestTo highestTo rangeOf larger smaller abs ahead sqrt spanAt withSpan overChannels alongEach gap2 narrowed missed nothing restrict isDominated
+    narrowestTo displace loseInside far2 inside moved cutEnds cutSpan cutBy cutTo cutLosing
+    powi powFrom ln lnScaled lnOf series ratio size isNan add sub mul div lt le eq ne neg ofInt ofBits
+opened call = outcome call
+
+-- ---- the tables
+
+-- how many rows there are: of the marked examples P8, P9 and P13 have two each
+pub sizes : (length markedRows ≡ 16) × (length furtherRows ≡ 87)
+unfolding markedRows furtherRows functionalRows inequalityRows noiseRows refusalRows chartRows ballRows slackRows penaltyRows roundingRows furtherRoundingRows
+sizes = (refl, refl)
+
+-- P1 to P13
+pub marked : Hold markedRows
+unfolding opened markedRows
+marked = refl
+
+-- our own rows, part by part
+both : (xs ys : List Row) → Hold xs → Hold ys → Hold (xs ++ ys)
+both xs ys p q =
+    map-append (λ (r : Row). outcome (r .call)) xs ys ∙ ap₂ (λ outcomes others. outcomes ++ others) p q ∙ sym (map-append (λ (r : Row). r .expected) xs ys)
+
+functional-rows : Hold functionalRows
+unfolding opened functionalRows
+functional-rows = refl
+
+inequality-rows : Hold inequalityRows
+unfolding opened inequalityRows
+inequality-rows = refl
+
+noise-rows : Hold noiseRows
+unfolding opened noiseRows
+noise-rows = refl
+
+refusal-rows : Hold refusalRows
+unfolding opened refusalRows
+refusal-rows = refl
+
+chart-rows : Hold chartRows
+unfolding opened chartRows
+chart-rows = refl
+
+ball-rows : Hold ballRows
+unfolding opened ballRows
+ball-rows = refl
+
+slack-rows : Hold slackRows
+unfolding opened slackRows
+slack-rows = refl
+
+penalty-rows : Hold penaltyRows
+unfolding opened penaltyRows
+penalty-rows = refl
+
+rounding-rows : Hold roundingRows
+unfolding opened roundingRows
+rounding-rows = refl
+
+further-rounding-rows : Hold furtherRoundingRows
+unfolding opened furtherRoundingRows
+further-rounding-rows = refl
+
+-- all of them
+pub further : Hold furtherRows
+unfolding furtherRows
+further =
+    both functionalRows (inequalityRows ++ (noiseRows ++ (refusalRows ++ (chartRows ++ (ballRows ++ (slackRows ++ (penaltyRows ++ (roundingRows ++ furtherRoundingRows)))))))) functional-rows
+    (both inequalityRows (noiseRows ++ (refusalRows ++ (chartRows ++ (ballRows ++ (slackRows ++ (penaltyRows ++ (roundingRows ++ furtherRoundingRows))))))) inequality-rows
+    (both noiseRows (refusalRows ++ (chartRows ++ (ballRows ++ (slackRows ++ (penaltyRows ++ (roundingRows ++ furtherRoundingRows)))))) noise-rows
+    (both refusalRows (chartRows ++ (ballRows ++ (slackRows ++ (penaltyRows ++ (roundingRows ++ furtherRoundingRows))))) refusal-rows
+    (both chartRows (ballRows ++ (slackRows ++ (penaltyRows ++ (roundingRows ++ furtherRoundingRows)))) chart-rows
+    (both ballRows (slackRows ++ (penaltyRows ++ (roundingRows ++ furtherRoundingRows))) ball-rows
+    (both slackRows (penaltyRows ++ (roundingRows ++ furtherRoundingRows)) slack-rows
+    (both penaltyRows (roundingRows ++ furtherRoundingRows) penalty-rows
+    (both roundingRows furtherRoundingRows rounding-rows further-rounding-rows))))))))
