@@ -34,7 +34,8 @@
  *     11 Chart      a chart setting is out of range
  *     12 Piece      a piece whose start is not below its end, or whose end is past the channel
  *
- * - Single results are written on every call, and are 0 on a refusal, but for the place of 8.
+ * - Single results are written on every call, and are 0 on a refusal, but for the channel and the index
+ *   of 8.
  * - What each call answers and leaves is proved to equal definitions; docs/PROMISES.md names them.
  *
  * A search over two channels of four readings
@@ -69,7 +70,7 @@ enum { OVERBRINDLE_SLOT = 200 };                         /* floats of the pool f
  * Room: n/2 cuts, (2k + 2)(n + 1) floats, 3(n + 1) indices. L2 on one or two channels needs a slot of
  * the pool for each candidate that lives at once, else none. From the moment that refusals 1 to 8 and
  * 10 are passed, floats, indices and pool are all zero afterwards; before, nothing is changed.
- * *count is the number of cuts; *channel and *index are the place of refusal 8, and else 0.
+ * *count is the number of cuts; *channel and *index are those of refusal 8, and else 0.
  * A plain search takes NaN and infinities as they are; a strict one refuses them. */
 uint32_t overbrindle_detect_multi(uint32_t cost, uint32_t penalty_kind, double penalty,
     size_t min_segment_len, const double *readings, size_t readings_len,
@@ -89,7 +90,7 @@ uint32_t overbrindle_piece_summary(const double *channel, size_t channel_len,
     size_t start, size_t end, size_t *length, double *mean, double *spread);
 
 /* The records of a chart over n readings, one array a field: signal is 1 or 0, index counts from 0.
- * Each array needs n places; those past n are left, and a refusal changes none. *count is n.
+ * Each array needs n elements; those past n are left, and a refusal changes none. *count is n.
  * A reading that is not finite is a gap: it carries the sums or the statistic on, without a signal.
  * CUSUM signals where a sum is above h, EWMA where the statistic is outside the limits lcl and ucl. */
 uint32_t overbrindle_cusum_analyze(double target, double sigma, double k, double h,
@@ -102,7 +103,7 @@ uint32_t overbrindle_ewma_analyze(double target, double sigma, double lambda, do
     double *ucl, size_t ucl_len, double *lcl, size_t lcl_len,
     uint8_t *signal, size_t signal_len, size_t *index, size_t index_len, size_t *count);
 
-/* The indices of the readings that signal, in the front of points, which needs n places; the rest is
+/* The indices of the readings that signal, in the front of points, which needs n elements; the rest is
  * left. *count is how many there are. */
 uint32_t overbrindle_cusum_signal_points(double target, double sigma, double k, double h,
     const double *data, size_t data_len, size_t *points, size_t points_len, size_t *count);
@@ -115,9 +116,9 @@ uint32_t overbrindle_ewma_signal_points(double target, double sigma, double lamb
 uint32_t overbrindle_cusum_run_length(double target, double sigma, double k, double h,
     double level, uint32_t side, size_t *reading);
 
-/* The noise variance of a channel, as the search with a BIC penalty takes it. It is worked out in
- * area[place] on, one place fewer than there are readings, which are zero afterwards; NaN, and nothing
- * written, where area has no room. */
+/* The noise variance of a channel of n readings, as the search with a BIC penalty takes it. It is worked
+ * out in the n - 1 elements of area from area[place], which are zero afterwards; NaN, and nothing
+ * written, where area has no room for them. */
 double overbrindle_noise_variance(const double *channel, size_t channel_len,
     double *area, size_t area_len, size_t place);
 

@@ -26,7 +26,7 @@ pub enum Kind {
 }
 
 /// A chart's records or signal points, of a chart made by `new` or with parameters. Each area has as many
-/// places as there are readings, and so many more or less; the last of `spare` is for the signal points.
+/// places as there are readings, and as many more or less as `spare` says, whose last is for the signal points.
 #[derive(Clone)]
 pub struct Chart {
     pub kind: Kind,
@@ -416,7 +416,7 @@ fn damage(fault: Fault, chart: &Chart, said: &mut (u32, usize), areas: &mut Area
     damage_records(fault, chart, count, areas);
 }
 
-/// So many records are there.
+/// Of `count` records.
 fn damage_records(fault: Fault, chart: &Chart, count: usize, areas: &mut Areas) {
     if fault.is("record's first value") && count > 0 {
         areas.values[0].words()[count - 1] ^= 1;

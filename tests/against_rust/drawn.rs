@@ -360,8 +360,7 @@ fn run_lengths(random: &mut Random) -> Vec<Case> {
     asked.map(case).collect()
 }
 
-/// A noise variance of each channel of the runs whose answers are stored; at times from a place on that no
-/// area has.
+/// A noise variance of each channel of the runs whose answers are stored; at times at a place that no area has.
 fn noises(random: &mut Random) -> Vec<Case> {
     let mut cases = Vec::new();
     for run in runs::runs(random) {

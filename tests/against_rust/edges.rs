@@ -279,7 +279,7 @@ fn at_or_beyond(random: &mut Random, level: f64, sigma: f64, upper: bool) -> f64
     reading.clamp(-f64::MAX, f64::MAX)
 }
 
-/// A stretch of about so many readings at or beyond a level, with gaps between them at times, and then a
+/// A stretch of about `run_length` readings at or beyond a level, with gaps between them at times, and then a
 /// reading just short of the level, or some noise about the target.
 fn stretch(random: &mut Random, asked: &Heard, run_length: usize) -> Vec<f64> {
     let [target, sigma, ..] = asked.settings;
@@ -326,7 +326,7 @@ fn heard_series(random: &mut Random, asked: &Heard, run_length: usize) -> Vec<f6
     readings
 }
 
-/// A case for each level that a chart with these settings is asked, with a run length of at most so many.
+/// A case for each level that a chart with these settings is asked, with a run length within `lengths`.
 fn heard_by(random: &mut Random, settings: Settings, lengths: (usize, usize)) -> Vec<Case> {
     let mut cases = Vec::new();
     for (level, upper) in charted::levels(random, settings.values) {

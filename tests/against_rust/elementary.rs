@@ -19,7 +19,7 @@ pub struct Tally {
     pub differ: usize,
 }
 
-/// So many inputs of each kind.
+/// `count` inputs of each kind.
 struct Trial<'a> {
     random: &'a mut Random,
     count: usize,
@@ -87,7 +87,7 @@ fn place(x: f64) -> i64 {
     }
 }
 
-/// Compares so many inputs of each kind, and prints what was found.
+/// Compares `count` inputs of each kind, and prints what was found.
 pub fn compare(random: &mut Random, count: usize, fault: Fault) -> Tally {
     let tally = Tally::default();
     let mut trial = Trial {

@@ -24,7 +24,7 @@ impl Heard {
         }
     }
 
-    /// The indices at which a chart has to signal that hears the level at this reading: so many finite
+    /// The indices at which a chart has to signal that hears the level at reading `run_length`: as many finite
     /// readings on end, up to and with this one, are at or beyond the level.
     fn due(&self, run_length: usize) -> Vec<usize> {
         let finite = self.readings.iter().enumerate();

@@ -1,7 +1,7 @@
 //! Areas as they are lent to a call: filled with numbers that are no answer, between places that belong
 //! to nobody, and afterwards compared place by place.
 
-/// So many places stand before and after a lent area.
+/// How many places stand before and after a lent area.
 const MARGIN: usize = 8;
 
 /// What a place of an area holds: the bits of a float, or an index.

@@ -14,7 +14,7 @@ const MIN_LEN: u64 = 2;
 const UNEQUAL: u64 = 5;
 const ROOM: u64 = 7;
 const POOL: u64 = 9;
-/// A call that is refused for its room is asked of the wrapper, which has room, up to so many readings:
+/// The most readings with which a call that is refused for its room is asked of the wrapper, which has room:
 /// searches of the longest channels take seconds in an emulator.
 const MOST_ASKED_AGAIN: usize = 512;
 /// What docs/DIFFERENCES.md says of the narrowest ball.

@@ -14,7 +14,7 @@ fn called_sqrt(x: f64) -> f64 {
     x.sqrt()
 }
 
-/// So many passes in which no call waits for another's result.
+/// `PASSES` passes in which no call waits for another's result.
 fn apart<'a, T: Copy>(values: &'a [T], f: impl Fn(T) -> f64 + 'a) -> impl FnMut() + 'a {
     let mut results = vec![0.0; values.len()];
     move || {
@@ -27,7 +27,7 @@ fn apart<'a, T: Copy>(values: &'a [T], f: impl Fn(T) -> f64 + 'a) -> impl FnMut(
     }
 }
 
-/// So many passes in which each call waits for the one before, and for a multiplication.
+/// `PASSES` passes in which each call waits for the one before, and for a multiplication.
 fn chained<'a>(values: &'a [f64], f: impl Fn(f64) -> f64 + 'a) -> impl FnMut() + 'a {
     let step = move |y, &value: &f64| f(y * value);
     move || {

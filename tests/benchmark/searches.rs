@@ -7,7 +7,7 @@ use crate::series::fraction;
 use crate::timing::{Best, Row};
 use std::hint::black_box;
 
-/// So many series of each sort; a row has the sum of their times.
+/// How many series there are of each sort; a row has the sum of their times.
 const SERIES: usize = 3;
 const POOL: u32 = 9;
 
@@ -33,8 +33,8 @@ impl Sort {
     }
 }
 
-/// Noise of about variance 1; so many changes of level, at even distances and in all channels at once,
-/// each by 3 to 6.
+/// Noise of about variance 1, with the changes of level that `sort` asks, at even distances and in all
+/// channels at once, each by 3 to 6.
 fn series(random: &mut Random, n: usize, sort: Sort) -> Vec<Vec<f64>> {
     let channel = |random: &mut Random| {
         let mut level = 0.0;

@@ -34,7 +34,7 @@ pub struct Best {
     pub enough: Duration,
 }
 
-/// A measure is of so many calls that it takes about this long.
+/// How long a measure takes, about: it has as many calls as that needs.
 const A_MEASURE: Duration = Duration::from_millis(4);
 /// Fewer measures than these say nothing.
 const LEAST_ROUNDS: usize = 3;

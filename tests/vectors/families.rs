@@ -152,7 +152,7 @@ fn all_series(values: &[f64], length: usize) -> Vec<Vec<f64>> {
     (0..count).map(series).collect()
 }
 
-/// Each series of so many channels of n readings over these values, every `step`th of them.
+/// Each series of `channels` channels of n readings over these values, every `step`th of them.
 pub fn exhaustive(
     values: &[f64],
     n: usize,
@@ -387,7 +387,7 @@ fn penalties(random: &mut Random) -> Vec<Call> {
     calls
 }
 
-/// Lists of lengths that are refused for a run of so many readings, and some that are not.
+/// Lists of lengths that are refused for a run of `count` readings, and some that are not.
 fn lists_of_lengths(count: u64) -> Vec<Vec<u64>> {
     let half = count / 2;
     let wrapped = 0u64.wrapping_sub(count);

@@ -70,7 +70,7 @@ impl Random {
         (self.next() >> 11) % limit
     }
 
-    /// A number of at most so many binary digits, where each number of digits is as likely.
+    /// A number of at most `most` binary digits, where each number of digits is as likely.
     fn of_digits(&mut self, most: u64) -> u64 {
         let digits = 1 + self.below(most);
         self.next() >> (64 - digits)

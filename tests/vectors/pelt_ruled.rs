@@ -21,8 +21,7 @@ impl RuleLogarithm for f64 {
     }
 }
 
-/// The list of living candidates holds so many: at the start, and whenever one joins. It grows nowhere
-/// else.
+/// The list of living candidates holds `count`: at the start, and whenever one joins. It grows nowhere else.
 #[deny(dead_code)]
 fn note_living(count: usize) {
     PEAK.fetch_max(count, Relaxed);

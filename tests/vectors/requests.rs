@@ -251,7 +251,7 @@ fn stepped(random: &mut Random, n: usize, piece: usize, noise: f64) -> Vec<f64> 
     (0..n).map(&mut reading).collect()
 }
 
-/// So many channels of n readings.
+/// `count` channels of n readings.
 fn channels(random: &mut Random, count: usize, n: usize, piece: usize) -> Vec<Vec<f64>> {
     (0..count).map(|_| stepped(random, n, piece, 0.5)).collect()
 }

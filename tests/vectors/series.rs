@@ -19,7 +19,7 @@ impl Settings {
 
 pub type SettingsKind = fn(&mut Random) -> Settings;
 
-/// Makes so many readings about a centre, at a scale: a chart's target and sigma.
+/// Makes a number of readings about a centre, at a scale: a chart's target and sigma.
 pub type SeriesKind = fn(&mut Random, f64, f64, usize) -> Vec<f64>;
 
 pub const CUSUM_SETTINGS: [SettingsKind; 7] = [
@@ -221,7 +221,7 @@ fn noise(random: &mut Random, centre: f64, scale: f64, count: usize) -> Vec<f64>
     (0..count).map(|_| centre + scale * bell(random)).collect()
 }
 
-/// Noise that is shifted from some place on.
+/// Noise, shifted from one of its readings to the end.
 fn stepped(random: &mut Random, centre: f64, scale: f64, count: usize) -> Vec<f64> {
     let place = random.below(count as u64 + 1) as usize;
     let shift = scale * between(random, -3.0, 3.0);

@@ -1,4 +1,4 @@
--- Laws of a cleared part: none, one place more, a part that ends with the area, the whole area, and that one area is left. Assumes nothing.
+-- Laws of `Cleared`: nothing cleared, one index more, a part that reaches the area's end, and the whole area. Assumes nothing.
 use Prim.Native.Nat.{ℕ, zero, suc, _+_, _-_, _≤_, _<_}
 use mathlib.Core.Path.{_≡_, refl, sym, ap, ap₂, _∙_}
 use mathlib.Core.Bool.{Bool, true, false, cond}
@@ -11,7 +11,7 @@ use lib.Dec.{ltb}
 use lib.ListN.{length, take, drop, set, replicate, getD, length-replicate, length-drop, take-append-drop}
 use lib.Seq.{take-all}
 use Rattle.areas.specs.Parts.{part}
-use Rattle.areas.proofs.PartLaws.{push, part-suc, frame-refl, frame-set, frame-wide, framed-once}
+use Rattle.areas.proofs.PartLaws.{push, part-suc, frame-refl, frame-set, frame-wide}
 use Rattle.areas.specs.Cleared.{Cleared, stopOf}
 
 module _ {A : Type 0} where
@@ -24,11 +24,11 @@ module _ {A : Type 0} where
   unfolding part
   cleared-none v area place = record { zero = refl; frame = frame-refl area place 0 }
 
-  -- before the first place
+  -- before the loop's first turn, with `place` for its index
   pub cleared-at : (v : A) (area : List A) (place : ℕ) → Cleared v area area place (place - place)
   cleared-at v area place = let e : place - place ≡ 0 = omega arith in rw e (cleared-none v area place)
 
-  -- the place after those cleared
+  -- one turn of the loop: the index `i`, behind those that are cleared, is set to `v`
   pub cleared-more : (v : A) (x y : List A) (place i : ℕ) → Cleared v x y place (i - place) → place ≤ i → i < length y → Cleared v x (set y i v) place (i + 1 - place)
   cleared-more v x y place i r h l =
       let s = i - place in
@@ -51,7 +51,7 @@ module _ {A : Type 0} where
   unfolding part
   part-past xs b m n h l = take-all n (drop b xs) (simp length-drop (omega arith)) ∙ sym (take-all m (drop b xs) (simp length-drop (omega arith)))
 
-  -- a part that ends with the area is all that there is of a longer one
+  -- where the first `m` from `place` reach the area's end, so do the first `n`, clipped to the area
   pub cleared-past : (v : A) (x y : List A) (place m n : ℕ) → Cleared v x y place m → length x ≤ place + m → m ≤ n → Cleared v x y place n
   cleared-past v x y place m n r h l =
       record {
@@ -62,7 +62,7 @@ module _ {A : Type 0} where
         frame = frame-wide place n (r .frame) (omega arith) (omega arith);
       }
 
-  -- where a loop from the place on ends
+  -- the loop's end: with `i` at `stopOf` the whole part is cleared
   pub cleared-all : (v : A) (x y : List A) (place size i : ℕ) → Cleared v x y place (i - place) → i ≡ stopOf place size (length x) → Cleared v x y place size
   unfolding stopOf
   cleared-all v x y place size i r e = go (ltb place (length x)) (ltb size (length x - place)) refl refl e
@@ -72,7 +72,7 @@ module _ {A : Type 0} where
       go true false p q f = let h = ltb-true place (length x) p in let l = ltb-false size (length x - place) q in cleared-past v x y place (i - place) size r (omega arith) (omega arith)
       go false b p q f = let h = ltb-false place (length x) p in cleared-past v x y place (i - place) size r (omega arith) (omega arith)
 
-  -- the whole area
+  -- an area that is cleared as a whole holds `v` alone
   pub cleared-whole : {v : A} {x y : List A} → Cleared v x y 0 (length x) → y ≡ replicate (length x) v
   unfolding part
   cleared-whole {v} {x} {y} r =
@@ -89,13 +89,13 @@ module _ {A : Type 0} where
   take-replicate (suc n) zero v h = absurd (not-suc-le-zero h)
   take-replicate (suc n) (suc m) v h = ap (λ (t : List A). v ∷ t) (take-replicate n m v (le-of-suc-le-suc h))
 
-  -- a part within the area
+  -- a cleared part that lies within the area is `size` times `v`
   pub cleared-part : {v : A} {x y : List A} {place size : ℕ} → Cleared v x y place size → place + size ≤ length x → part y place size ≡ replicate size v
   unfolding part
   cleared-part {v} {x} {y} {place} {size} r h =
       r .zero ∙ ap (take size) (drop-replicate place (length x) v (omega arith)) ∙ take-replicate size (length x - place) v (omega arith)
 
-  -- all from a place on
+  -- a cleared part that reaches the area's end: `y` is `x` up to `place`, and `v` behind it
   pub cleared-tail : {v : A} {x y : List A} {place size : ℕ} → Cleared v x y place size → place ≤ length x → length x ≤ place + size → y ≡ take place x ++ replicate (length x - place) v
   unfolding part
   cleared-tail {v} {x} {y} {place} {size} r h l =
@@ -107,10 +107,7 @@ module _ {A : Type 0} where
       ∙ drop-replicate place (length x) v h in
       sym (take-append-drop place y) ∙ ap₂ _++_ (r .frame .front) tail
 
-  pub cleared-once : {v : A} {x y z : List A} {place size : ℕ} → Cleared v x y place size → Cleared v x z place size → y ≡ z
-  cleared-once r s = framed-once (r .frame) (s .frame) (r .zero ∙ sym (s .zero))
-
--- the end is not before the place, and what stands before it stands in the area
+-- `stopOf` is at least `place`, and an index from `place` up to it is within the area
 pub stop-from : (place size long : ℕ) → place ≤ stopOf place size long
 unfolding stopOf
 stop-from place size long = go (ltb place long) (ltb size (long - place)) refl refl

@@ -88,7 +88,7 @@ module _ {A : Type 0} where
       (λ l. List·getD-append (tab g n) (g n ∷ []) d i (rw tab-length l) ∙ tab-at g n i d l)
       (eq-or-lt-of-le (le-of-suc-le-suc h))
 
-  -- the same as the code writes an index and a count
+  -- the laws above with the index `i` as the code writes it, equal to `b + j`
   pub read : (xs : List A) (b n j i : ℕ) (d : A) → i ≡ b + j → j < n → getD xs i d ≡ getD (part xs b n) j d
   read xs b n j i d e h = ap (λ (k : ℕ). getD xs k d) e ∙ part-at xs b n j d h
 
@@ -119,12 +119,12 @@ module _ {A : Type 0} where
         long = f .long;
       }
 
-  -- one more place of a part that holds a table
+  -- one more value of a part that holds a table
   pub grow : (g : ℕ → A) (xs : List A) (b j i : ℕ) (v : A) → part xs b j ≡ tab g j → i ≡ b + j → i < length xs → v ≡ g j
       → part (set xs i v) b (j + 1) ≡ tab g (j + 1)
   grow g xs b j i v p e h q = push xs b j i v e h ∙ (rw (p, q) (sym (tab-more g j)))
 
-  -- a part of two pieces, and a list as the part and what stands around it
+  -- a part is its first `m` values and the `n` behind them; a list is what stands before a part, the part, and what stands behind it
   pub part-add : (xs : List A) (b m n : ℕ) → part xs b (m + n) ≡ part xs b m ++ part xs (b + m) n
   unfolding part
   part-add xs b m n = take-add m n (drop b xs) ∙ ap (λ (l : List A). take m (drop b xs) ++ take n l) (drop-drop m b xs)

@@ -1,9 +1,10 @@
-// Zeros in a part of an area.
+// Sets a part of a lent area to zero.
 ghost use mathlib.Core.Path.{_≡_};
 ghost use Rattle.floats.specs.Numbers.{+0};
 ghost use Rattle.areas.specs.Cleared.{Cleared, stopOf};
 
-// Where so many places from a place on end in an area of that length; no sum is formed that could wrap.
+// The index where `place..place + size` ends in an area of `long` values: `place + size` clipped to
+// `long`, and `place` itself where that is not below `long`. No sum is formed that could wrap.
 fn stop(place: usize, size: usize, long: usize) -> usize
     ensures { λ r. ⌜ r ≡ stopOf place size long ⌝ }
 {
@@ -16,7 +17,8 @@ fn stop(place: usize, size: usize, long: usize) -> usize
     place
 }
 
-// So many floats from a place on become +0, as far as the area has them. Cost: one turn for each.
+// Sets `area[place..place + size]` to +0, clipped to the area; the rest stays. Cost: one turn for each
+// float that is set.
 pub fn clear_floats(area: &mut [f64], place: usize, size: usize)
     ensures { λ r. ⌜ Cleared +0 (now (area .entry)) (now (area .exit)) place size ⌝ }
 {
@@ -28,7 +30,8 @@ pub fn clear_floats(area: &mut [f64], place: usize, size: usize)
     }
 }
 
-// So many indices from a place on become 0, as far as the area has them. Cost: one turn for each.
+// Sets `area[place..place + size]` to 0, clipped to the area; the rest stays. Cost: one turn for each
+// index that is set.
 pub fn clear_indices(area: &mut [usize], place: usize, size: usize)
     ensures { λ r. ⌜ Cleared 0 (now (area .entry)) (now (area .exit)) place size ⌝ }
 {

@@ -1,7 +1,7 @@
-// Lent areas: a part of one set to zero.
+// Clearing a part of a lent area: the part becomes zero, and the rest stays as it was.
 //
-// No function asks anything of its caller: places past the area's end are passed over, and every
-// other place keeps what it held. `specs/Cleared` has the definition.
+// No function asks anything of its caller: a part that reaches past the area's end is clipped to the
+// area. `specs/Cleared` says what an area holds afterwards; `specs/Parts` says what a part of it is.
 mod clear;
 
 pub use clear::clear_floats;

@@ -1,9 +1,9 @@
--- Demand 2 of the cuts by sound predecessors: they rise strictly, every piece has at least the minimum length, and half as many places as readings are room enough for them. Assumes nothing.
+-- Demand 2 of the cuts by sound predecessors: they rise strictly, every piece has at least the minimum length, and an area of n/2 indices is room enough for them. Assumes nothing.
 use Prim.Native.Nat.{ℕ, zero, suc, _+_, _-_, _*_, _/_, _≤_, _<_}
 use mathlib.Core.Path.{_≡_, refl, sym, ap, _∙_}
 use mathlib.Core.Bool.{Bool, true, false, cond}
 use mathlib.Core.List.{List, [], _∷_, _++_}
-use mathlib.Core.Logic.{_⊎_, inl, inr, ⊎-elim}
+use mathlib.Core.Logic.{inl, inr, ⊎-elim}
 use native.Mathlib.Omega.{arith}
 use native.Mathlib.Nat.{not-suc-le-zero, le-of-suc-le-suc, eq-or-lt-of-le}
 use native.Mathlib.Numerals.{add-one}
@@ -11,18 +11,14 @@ use lib.Dec.{ltb}
 use lib.ListN.{length, getD, take, drop, length-append, List·getD-append}
 use lib.Seq.{getD-append-seam, take-at, drop-at}
 use Rattle.search_rules.specs.Predecessors.{Placed, start, later, Sound}
-use Rattle.search_rules.proofs.PredecessorLaws.{Joined, placed-before}
+use Rattle.search_rules.proofs.PredecessorLaws.{Joined}
 use Rattle.backtrack.specs.Cuts.{predecessorOf, backFrom, cutsOf, written}
 use Rattle.backtrack.specs.Backtracked.{Backtracked}
 use Rattle.backtrack.specs.Pieces.{Rising, ends, Pieces}
-use Rattle.backtrack.proofs.WalkLaws.{predecessor-is, predecessor-le, predecessor-at-most, cuts-front, back-none}
+use Rattle.backtrack.proofs.WalkLaws.{predecessor-le, predecessor-at-most, cuts-front, back-none}
 use Rattle.backtrack.proofs.WrittenLaws.{written-room}
 
 -- ---- a sound list's predecessors
--- all count: none is turned away for not being below its t
-pub sound-predecessor : {m : ℕ} {last : List ℕ} (t : ℕ) → Sound m last → 0 < m → 0 < t → predecessorOf last t ≡ getD last t 0
-sound-predecessor t s h l = sym (predecessor-is _ t _ refl (placed-before (s .placed t) h l))
-
 placed-predecessor : {m : ℕ} {last : List ℕ} (t : ℕ) → Sound m last → Placed m t (predecessorOf last t)
 unfolding predecessorOf
 placed-predecessor {m} {last} t s = go (ltb (getD last t 0) t)
@@ -40,7 +36,7 @@ placed-apart : {m t tau : ℕ} → Placed m t tau → m ≤ t → tau + m ≤ t
 placed-apart (start e) h = omega arith
 placed-apart (later p q) h = q
 
--- ---- from 0 to t in steps of at least m, each but 0 listed
+-- ---- from 0 to t in steps of at least `m`, with each end but 0 listed
 data Steps (m : ℕ) : List ℕ → ℕ → Type 0 where
   none : Steps m [] 0
   more : {cs : List ℕ} {p : ℕ} (t : ℕ) → Steps m cs p → p + m ≤ t → Steps m (cs ++ (t ∷ [])) t
@@ -76,12 +72,12 @@ steps-apart {m} (more {cs} {p} t s h) i l = ⊎-elim at-end (λ g. before-end g 
     before-end g q = rw (List·getD-append (0 ∷ cs) (t ∷ []) 0 i (omega arith), List·getD-append (0 ∷ cs) (t ∷ []) 0 (i + 1) (omega arith)) q
 
 -- ---- every piece has at least the minimum length
--- of m readings or more
+-- for `n` readings, at least `m`
 pub sound-pieces : {m : ℕ} {last : List ℕ} (n : ℕ) → Sound m last → m ≤ n → Pieces m n (cutsOf last n)
 unfolding ends
 sound-pieces {last = last} n s h = record { long = λ i l. steps-apart (cuts-steps n s h) i (rw length-append (omega arith)) }
 
--- where there is a cut, the readings are two pieces or more
+-- where there is a cut there are two pieces or more, so `n` is at least twice `m`
 pub cut-needs : {m : ℕ} {last : List ℕ} (n : ℕ) → Sound m last → 0 < length (cutsOf last n) → m + m ≤ n
 unfolding cutsOf
 cut-needs {m} {last} n s h = go (placed-predecessor n s)
@@ -102,7 +98,7 @@ end-at : (n : ℕ) (cs : List ℕ) → getD (ends n cs) (length cs + 1) 0 ≡ n
 unfolding ends
 end-at n cs = rw add-one (getD-append-seam cs n [] 0)
 
--- each piece begins m or more before n
+-- each piece begins at least `m` before `n`
 pieces-before : {m n : ℕ} {cs : List ℕ} → Pieces m n cs → (d i : ℕ) → i + d ≡ length cs → getD (ends n cs) i 0 + m ≤ n
 pieces-before {m} {n} {cs} r zero i e = let f : length cs ≡ i = omega arith in omega (arith, r .long i (omega arith), rw f at (end-at n cs))
 pieces-before {m} {n} {cs} r (suc d) i e = omega (arith, r .long i (omega arith), pieces-before r d (i + 1) (omega arith))
@@ -118,7 +114,7 @@ pieces-rise {m} {n} {cs} r h =
 none-rise : (n : ℕ) → Rising n []
 none-rise n = record { rise = λ i l. absurd (not-suc-le-zero l); above = λ i l. absurd (not-suc-le-zero l); below = λ i l. absurd (not-suc-le-zero l) }
 
--- what holds of no cuts, and of the pieces of m readings or more, holds of the cuts
+-- what holds of no cuts, and of cuts whose pieces have `m` readings or more, holds of the cuts
 cuts-either : {m : ℕ} {last : List ℕ} (P : List ℕ → Type 0) (n : ℕ) → Sound m last → P [] → (Pieces m n (cutsOf last n) → P (cutsOf last n)) → P (cutsOf last n)
 cuts-either {m} {last} P n s z f = go (cutsOf last n) (cut-pieces n s) f
   where
@@ -129,7 +125,7 @@ cuts-either {m} {last} P n s z f = go (cutsOf last n) (cut-pieces n s) f
 pub cuts-rise : {m : ℕ} {last : List ℕ} (n : ℕ) → Sound m last → 0 < m → Rising n (cutsOf last n)
 cuts-rise n s h = cuts-either (Rising n) n s (none-rise n) (λ r. pieces-rise r h)
 
--- ---- n/2 places are room enough
+-- ---- an area of n/2 indices is room enough
 ends-apart : {m n : ℕ} {cs : List ℕ} → Pieces m n cs → 2 ≤ m → (i : ℕ) → i ≤ length cs + 1 → 2 * i ≤ getD (ends n cs) i 0
 ends-apart r h zero l = omega arith
 ends-apart {cs = cs} r h (suc i) l = let e : suc i ≡ i + 1 = omega arith in rw e (omega (arith, r .long i (omega arith), ends-apart r h i (omega arith)))
@@ -153,7 +149,7 @@ front-written {n = n} last rest {before} b s h l g =
     ∙ written-room (cutsOf last n) before (omega arith)
     ∙ ap (λ (k : ℕ). cutsOf last n ++ drop k before) (sym (front-count last rest b l))
 
--- with that room they fill the front of the area
+-- with that room the cuts fill the front of the area
 pub room-front : {m n : ℕ} (last rest : List ℕ) {before after : List ℕ} {r : ℕ} → Backtracked (last ++ rest) n before after r → Sound m last → 2 ≤ m → n < length last → n / 2 ≤ length before
     → take r after ≡ cutsOf last n
 room-front {n = n} last rest {r = r} b s h l g = rw (front-written last rest b s h l g) (take-at (cutsOf last n) _ r (sym (front-count last rest b l)))

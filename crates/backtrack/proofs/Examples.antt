@@ -1,4 +1,4 @@
--- Cuts by computation: one cut, two in rising order, none, no readings, too few indices, a predecessor that is not below its place, and areas with more room and with less. Assumes nothing.
+-- Cuts by computation: one cut, two in rising order, none, no readings, too few indices, a predecessor that is not below its own index, and areas with more room and with less. Assumes nothing.
 use mathlib.Core.Path.{_≡_, refl}
 use mathlib.Core.List.{[], _∷_}
 use Rattle.backtrack.specs.Cuts.{predecessorOf, backFrom, cutsOf, written}
@@ -23,7 +23,7 @@ too-few-indices : cutsOf (0 ∷ 0 ∷ 0 ∷ 0 ∷ 2 ∷ []) 5 ≡ []
 unfolding cutsOf backFrom predecessorOf
 too-few-indices = refl
 
--- no search records the 3 at place 2: the walk ends there
+-- no search records the 3 at the index 2: the walk ends there
 not-below : cutsOf (0 ∷ 0 ∷ 3 ∷ 0 ∷ 2 ∷ []) 4 ≡ 2 ∷ []
 unfolding cutsOf backFrom predecessorOf
 not-below = refl

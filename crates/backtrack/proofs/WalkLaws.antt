@@ -15,7 +15,7 @@ pub predecessor-is : (last : List ℕ) (t tau : ℕ) → tau ≡ getD last t 0 �
 unfolding predecessorOf
 predecessor-is last t tau e h = rw (← e) (rw (lt-ltb tau t h) refl)
 
--- one that is not below t does not count
+-- a predecessor `tau` that is not below `t` does not count
 pub predecessor-not-below : (last : List ℕ) (t tau : ℕ) → tau ≡ getD last t 0 → t ≤ tau → 0 ≡ predecessorOf last t
 unfolding predecessorOf
 predecessor-not-below last t tau e h = rw (← e) (rw (le-ltb tau t h) refl)
@@ -53,7 +53,7 @@ unfolding backFrom
 back-none zero last = refl
 back-none (suc k) last = refl
 
--- t bounds the turns from t, and no greater bound adds one
+-- `t` bounds the turns from `t`, and no greater bound adds one
 back-bound : (k j : ℕ) (last : List ℕ) (t : ℕ) → t ≤ k → t ≤ j → backFrom k last t ≡ backFrom j last t
 unfolding backFrom
 back-bound zero j last zero h l = sym (back-none j last)
@@ -70,7 +70,7 @@ back-few zero last t = omega arith
 back-few (suc k) last zero = omega arith
 back-few (suc k) last (suc t) = rw length-append (let h = back-few k last (predecessorOf last (suc t)) in omega arith)
 
--- what is left of a walk that has come to t
+-- the cuts that are left of a walk that has come to `t`
 abbrev pub leftFrom : List ℕ → ℕ → List ℕ
 leftFrom last t = backFrom t last t
 
@@ -81,7 +81,7 @@ left-all last n t e = rw e (back-bound n (predecessorOf last n) last (predecesso
 pub left-none : (last : List ℕ) → leftFrom last 0 ≡ []
 left-none last = back-none 0 last
 
--- one turn
+-- one turn of the walk, from `t` to its predecessor
 pub left-turn : (last : List ℕ) (t : ℕ) → 0 < t → leftFrom last t ≡ leftFrom last (predecessorOf last t) ++ (t ∷ [])
 unfolding backFrom
 left-turn last zero h = absurd (not-suc-le-zero h)
@@ -95,11 +95,6 @@ unfolding cutsOf
 cuts-few last n = back-few n last (predecessorOf last n)
 
 -- ---- which indices count
--- too few indices for n, or no readings
-pub cuts-short : (last : List ℕ) (n : ℕ) → length last ≤ n → cutsOf last n ≡ []
-unfolding cutsOf
-cuts-short last n h = ap (backFrom n last) (sym (predecessor-past last n h)) ∙ back-none n last
-
 pub cuts-no-readings : (last : List ℕ) → cutsOf last 0 ≡ []
 unfolding cutsOf backFrom
 cuts-no-readings last = refl
@@ -117,7 +112,7 @@ back-front (suc k) last rest (suc t) h =
     ap (λ (tau : ℕ). backFrom k (last ++ rest) tau ++ (suc t ∷ [])) (predecessor-front last rest (suc t) h)
     ∙ ap (λ (cs : List ℕ). cs ++ (suc t ∷ [])) (back-front k last rest (predecessorOf last (suc t)) (omega arith))
 
--- those after the predecessors of 0 to n do not
+-- those behind the predecessors of 0 to `n` do not count
 pub cuts-front : (last rest : List ℕ) (n : ℕ) → n < length last → cutsOf (last ++ rest) n ≡ cutsOf last n
 unfolding cutsOf
 cuts-front last rest zero h = cuts-no-readings (last ++ rest) ∙ sym (cuts-no-readings last)

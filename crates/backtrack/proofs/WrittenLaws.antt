@@ -1,4 +1,4 @@
--- Laws of the area that the cuts are written to: the last cut is written first, room enough, and that one outcome meets `Backtracked`. Assumes nothing.
+-- Laws of the area that the cuts are written to: the last cut is written first, room enough, and that one outcome alone meets `Backtracked`. Assumes nothing.
 use Prim.Native.Nat.{ℕ, _+_, _≤_, _<_}
 use mathlib.Core.Path.{_≡_, refl, sym, ap, _∙_}
 use mathlib.Core.List.{List, [], _∷_, _++_}
@@ -30,7 +30,7 @@ written-last (d ∷ cs) c (x ∷ area) =
     ∙ ap (λ (l : List ℕ). d ∷ l) (written-last cs c area)
     ∙ sym (written-one d x cs (set area (length cs) c))
 
--- one turn of the walk back writes the last of the cuts that are left
+-- one turn of the walk back writes the last of the cuts that are left, `t`, at the index `place`
 pub written-turn : (last area : List ℕ) (t tau place : ℕ) → 0 < t → tau ≡ predecessorOf last t → place + 1 ≡ length (leftFrom last t) → written (leftFrom last tau) (set area place t) ≡ written (leftFrom last t) area
 written-turn last area t tau place h e l =
     let p : place ≡ length (leftFrom last (predecessorOf last t)) = omega (arith, left-turn-length last t h) in

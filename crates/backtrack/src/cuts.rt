@@ -1,10 +1,12 @@
-// The walk back over the predecessors.
+// The walk back from the end of the readings over the predecessors: how many cuts it meets, and the
+// cuts.
 ghost use mathlib.Core.Path.{_≡_};
 ghost use lib.ListN.{length, set};
 ghost use Rattle.backtrack.specs.Cuts.{predecessorOf, cutsOf, written};
 ghost use Rattle.backtrack.specs.Backtracked.{Backtracked};
 
-// The predecessor of t, and 0 where the list has none that is below t: every walk back ends.
+// The predecessor of `t` in `indices`, and 0 where there is none that is below `t`: every walk back
+// ends.
 fn predecessor(indices: &[usize], t: usize) -> usize
     ensures { λ r. ⌜ r ≡ predecessorOf (now (indices .entry)) t ⌝ }
 {
@@ -17,7 +19,7 @@ fn predecessor(indices: &[usize], t: usize) -> usize
     0
 }
 
-// How many cuts there are. Cost: one turn for each.
+// How many cuts the walk back from `n` over `indices` meets. Cost: one turn for each.
 fn count_cuts(indices: &[usize], n: usize) -> usize
     ensures { λ r. ⌜ r ≡ length (cutsOf (now (indices .entry)) n) ⌝ }
 {
@@ -30,7 +32,7 @@ fn count_cuts(indices: &[usize], n: usize) -> usize
     count
 }
 
-// A cut at its place, where the area has it.
+// Sets `cuts[place]` to `cut` if `place` is below the area's length.
 fn put(cuts: &mut [usize], place: usize, cut: usize)
     ensures { λ r. ⌜ now (cuts .exit) ≡ set (now (cuts .entry)) place cut ⌝ }
 {
@@ -39,8 +41,9 @@ fn put(cuts: &mut [usize], place: usize, cut: usize)
     }
 }
 
-// So many cuts into the front of the area. The walk back meets the highest first, so they fill their
-// places from the last one down. Cost: one turn for each.
+// Writes the `count` cuts that the walk back from `n` over `indices` meets to the front of `cuts`, as
+// far as it has room. The walk meets the highest first, so they are written from the last one down.
+// Cost: one turn for each.
 fn fill_cuts(indices: &[usize], n: usize, count: usize, cuts: &mut [usize])
     requires { ⌜ count ≡ length (cutsOf (now indices) n) ⌝ }
     ensures { λ r. ⌜ now (cuts .exit) ≡ written (cutsOf (now (indices .entry)) n) (now (cuts .entry)) ⌝ }
@@ -54,9 +57,10 @@ fn fill_cuts(indices: &[usize], n: usize, count: usize, cuts: &mut [usize])
     }
 }
 
-// The cuts of n readings by the predecessors of 0 to n at the front of the indices: how many they are,
-// and they themselves, lowest first, in the front of `cuts` as far as it has room. Too few indices
-// for n give no cuts. Cost: two walks back with one turn for each cut; a search leaves at most n/2.
+// The number of the cuts of `n` readings, by the predecessors of 0 to `n` at the front of `indices`; the
+// cuts themselves, lowest first, are written to the front of `cuts` as far as it has room. With `n`
+// indices or fewer there are no cuts. Cost: two walks back with one turn for each cut; a search leaves
+// at most n/2.
 pub fn backtrack(indices: &[usize], n: usize, cuts: &mut [usize]) -> usize
     ensures { λ r. ⌜ Backtracked (now (indices .entry)) n (now (cuts .entry)) (now (cuts .exit)) r ⌝ }
 {

@@ -1,3 +1,2 @@
-pub mod Numbers
-pub mod Outcomes
 pub mod ReadBack
+pub mod TellLaws

@@ -1,18 +1,16 @@
 -- What is told of an answer in plain numbers. Definitions only.
 use Prim.Native.Nat.{ℕ}
-use mathlib.Core.Path.{_≡_}
-use mathlib.Core.Bool.{Bool, not, cond}
+use mathlib.Core.Bool.{not, cond}
 use mathlib.Core.List.{List, [], _∷_}
 use lib.Dec.{ltb, eqb}
 use lib.ListN.{getD}
 use lib.Ieee.{Float}
 use Rattle.floats.specs.Numbers.{+0}
 use Rattle.refusals.specs.Stated.{stated}
-use Rattle.refusals.specs.Said.{Said, refused, answered, tried}
+use Rattle.refusals.specs.Tried.{tried}
+use Rattle.refusals.specs.Said.{Said, refused, answered, refusing, said}
 use Rattle.refusals.specs.declared.Refusal.the-variants as Refusal
-use Rattle.charts.specs.declared.Signalled.{Signalled}
-use Rattle.charts.specs.Answers.{signalled}
-use Rattle.charts.specs.Contracts.{Marked}
+use Rattle.refusals.specs.declared.Answer.{Answer}
 use Rattle.cusum.specs.declared.Cusum.{Cusum}
 use Rattle.cusum.specs.declared.Side.{Side}
 use Rattle.cusum.specs.declared.Side.the-variants as Side
@@ -32,7 +30,7 @@ unfoldable pub toldOf : Said → Told
 toldOf (answered values) = toldAs 0 (getD values 0 0) 0 0
 toldOf (refused s) = toldAs (s .number) 0 (getD (s .values) 0 0) (getD (s .values) 1 0)
 
--- the parts of an answer without a place, such an answer of one with it, and what is told so
+-- the parts of an answer without channel and index, such an answer of one with them, and what is told so
 abbrev pub countedAs : ℕ → ℕ → Counted
 countedAs number count = record { number = number; count = count }
 
@@ -51,16 +49,14 @@ unfoldable pub pieceOf : Summarised → ToldPiece
 pieceOf (Summarised.Piece p) = pieceAs 0 (p .length) (p .mean) (p .spread)
 pieceOf (Summarised.Refused r) = pieceAs (stated r .number) 0 +0 +0
 
--- 0 is the upper side, 1 the lower
+-- the side that the number `side` stands for: 0 is the upper, 1 the lower
 unfoldable pub sideOf : ℕ → Side
 sideOf side = cond (eqb side 0) Side.Upper Side.Lower
 
--- 10 for any other number, and then what the run length says
+-- 10 where `side` is any other number, and then what the run length of `level` says
 unfoldable pub runLengthOf : Cusum → Float → ℕ → Said
-runLengthOf c level side = tried ((not (ltb side 2), Refusal.Form) ∷ []) (runLength c level (sideOf side))
+runLengthOf c level side = tried refusing ((not (ltb side 2), Refusal.Form) ∷ []) (runLength c level (sideOf side))
 
--- what `signal_points` of n readings answers and leaves (`charts/specs/Contracts`), told in numbers
-pub record ToldMarks (accepted : Bool) (n : ℕ) (points entry exit : List ℕ) (t : Counted) : Type 0 where
-  pub answer : Signalled
-  pub told : t ≡ countedOf (signalled answer)
-  pub left : Marked accepted n points entry answer exit
+-- what a call answers and leaves in its lent slice, with the answer told in numbers
+abbrev pub toldLeft : {A : Type 0} → Answer × List A → Counted × List A
+toldLeft outcome = (countedOf (said (outcome .0)), outcome .1)

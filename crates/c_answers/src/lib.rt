@@ -8,19 +8,17 @@ mod sides;
 ghost use mathlib.Core.Path.{_≡_};
 ghost use mathlib.Core.List.{[], _∷_};
 ghost use Rattle.refusals.specs.Stated.{stated};
-ghost use Rattle.refusals.specs.Said.{answered, refused};
-ghost use Rattle.charts.specs.Answers.{charted, signalled};
+ghost use Rattle.refusals.specs.Said.{answered, refusing, said};
 ghost use Rattle.cusum.specs.RunLength.{heardAs};
 ghost use Rattle.c_answers.specs.Told.{toldOf, briefly, countedOf, pieceOf};
-use charts::Charted;
-use charts::Signalled;
 use cusum::Heard;
 use piece::Summarised;
+use refusals::Answer;
 use refusals::Refusal;
 pub use sides::run_length;
 
-// An answer that says at most one whole number: 0 or the refusal's number, that whole number, and the
-// place of a reading that is not finite.
+// An answer that says at most one whole number: `number` is 0 or the refusal's, `count` that whole
+// number, and `channel` and `index` are those of the reading that refusal 8 names.
 pub struct Told {
     pub number: u32,
     pub count: usize,
@@ -28,13 +26,13 @@ pub struct Told {
     pub index: usize,
 }
 
-// The same without a place.
+// The same without the channel and the index.
 pub struct Counted {
     pub number: u32,
     pub count: usize,
 }
 
-// A piece's summary: 0 or the refusal's number, and the summary's values.
+// A piece's summary: `number` is 0 or the refusal's, and the others are the summary's values.
 pub struct ToldPiece {
     pub number: u32,
     pub length: usize,
@@ -42,7 +40,7 @@ pub struct ToldPiece {
     pub spread: f64,
 }
 
-// An answer with this whole number.
+// What is told of an answer that says `count`.
 fn result(count: usize) -> Told
     ensures { λ r. ⌜ r ≡ toldOf (answered (count ∷ [])) ⌝ }
 {
@@ -54,33 +52,28 @@ fn result(count: usize) -> Told
     }
 }
 
+// The number of `refusal`, in 32 bits.
 fn number_of(refusal: Refusal) -> u32
     ensures { λ r. ⌜ r ≡ stated refusal .number ⌝ }
 {
     refusal.number() as u32
 }
 
-// A refusal, with its place where it carries one.
+// What is told of `refusal`: its number and the values that it carries.
 pub fn refused(refusal: Refusal) -> Told
-    ensures { λ r. ⌜ r ≡ toldOf (refused (stated refusal)) ⌝ }
+    ensures { λ r. ⌜ r ≡ toldOf (refusing refusal) ⌝ }
 {
     let number = number_of(refusal);
-    match refusal {
-        Refusal::NonFinite { channel, index } => Told {
-            number,
-            count: 0,
-            channel,
-            index,
-        },
-        _ => Told {
-            number,
-            count: 0,
-            channel: 0,
-            index: 0,
-        },
+    let values = refusal.values();
+    Told {
+        number,
+        count: 0,
+        channel: values.first,
+        index: values.second,
     }
 }
 
+// `told` without its channel and index.
 fn brief(told: Told) -> Counted
     ensures { λ r. ⌜ r ≡ briefly told ⌝ }
 {
@@ -90,27 +83,17 @@ fn brief(told: Told) -> Counted
     }
 }
 
-// The number of records, or the refusal.
-pub fn records(answer: Charted) -> Counted
-    ensures { λ r. ⌜ r ≡ countedOf (charted answer) ⌝ }
+// What is told of `answer`: how many records or indices were written, or the refusal.
+pub fn answered(answer: Answer) -> Counted
+    ensures { λ r. ⌜ r ≡ countedOf (said answer) ⌝ }
 {
     match answer {
-        Charted::Records(count) => brief(result(count)),
-        Charted::Refused(refusal) => brief(refused(refusal)),
+        Answer::Count(count) => brief(result(count)),
+        Answer::Refused(refusal) => brief(refused(refusal)),
     }
 }
 
-// The number of indices, or the refusal.
-pub fn points(answer: Signalled) -> Counted
-    ensures { λ r. ⌜ r ≡ countedOf (signalled answer) ⌝ }
-{
-    match answer {
-        Signalled::Points(count) => brief(result(count)),
-        Signalled::Refused(refusal) => brief(refused(refusal)),
-    }
-}
-
-// The reading at which a level was heard, 0 where it was not, or the refusal.
+// What is told of `answer`: the reading at which a level was heard, 0 where it was not, or the refusal.
 pub(crate) fn heard(answer: Heard) -> Counted
     ensures { λ r. ⌜ r ≡ countedOf (heardAs answer) ⌝ }
 {
@@ -121,7 +104,7 @@ pub(crate) fn heard(answer: Heard) -> Counted
     }
 }
 
-// A summary's values, or the refusal's number with zeros.
+// What is told of `answer`: the summary's values, or the refusal's number with zeros.
 pub fn piece(answer: Summarised) -> ToldPiece
     ensures { λ r. ⌜ r ≡ pieceOf answer ⌝ }
 {

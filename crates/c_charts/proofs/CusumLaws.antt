@@ -1,29 +1,41 @@
 -- The loop that fills the arrays of a CUSUM chart: they have room, their lengths stay, and one reading more. Assumes nothing.
-use mathlib.Core.Path.{_≡_}
+use mathlib.Core.Path.{_≡_, refl}
 use Prim.Native.Nat.{ℕ, _+_, _≤_, _<_}
 use mathlib.Core.Bool.{Bool}
 use mathlib.Core.List.{List}
 use native.Mathlib.Omega.{arith}
 use lib.ListN.{length, set}
 use lib.Ieee.{Float, nan}
+use Rattle.refusals.specs.Tried.{countOf}
+use Rattle.refusals.specs.Said.{said}
+use Rattle.charts.specs.Answers.{admittedAs}
+use Rattle.charts.specs.Runs.{column}
 use Rattle.charts.proofs.Answers.{within-both}
 use Rattle.charts.proofs.Columns.{Going, filled-length, one-gone, one-filled, all-filled}
 use Rattle.cusum.specs.declared.Cusum.{Cusum}
 use Rattle.cusum.specs.declared.State.{State}
-use Rattle.cusum.specs.Chart.{shownOf, startState, nextState, followingState}
-use Rattle.c_charts.specs.Columns.{writtenRecords}
-use Rattle.c_charts.specs.CusumColumns.{upperOf, lowerOf, signalOf, indexOf, Filled, roomOf}
+use Rattle.cusum.specs.Chart.{accepted, records, shownOf, startState, nextState, followingState}
+use Rattle.c_answers.specs.declared.Counted.{Counted}
+use Rattle.c_answers.specs.Told.{countedOf}
+use Rattle.c_charts.specs.CusumColumns.{cusumArrays, upperOf, lowerOf, signalOf, indexOf, roomOf}
 use Rattle.c_charts.proofs.Lengths.{shortest-least}
 
--- every array has room for n records
+-- each array has, for each of the first `n` readings of `xs`, that field of the record that `analyze` writes
+pub record Filled (c : Cusum) (xs : List Float) (n : ℕ) (upper upper′ lower lower′ : List Float) (signal signal′ index index′ : List ℕ) : Type 0 where
+  pub upper-left : upper′ ≡ column upperOf (records c xs n) upper
+  pub lower-left : lower′ ≡ column lowerOf (records c xs n) lower
+  pub signal-left : signal′ ≡ column signalOf (records c xs n) signal
+  pub index-left : index′ ≡ column indexOf (records c xs n) index
+
+-- every array has room for `n` records
 pub record Room (n : ℕ) (upper lower : List Float) (signal index : List ℕ) : Type 0 where
   pub upper-room : n ≤ length upper
   pub lower-room : n ≤ length lower
   pub signal-room : n ≤ length signal
   pub index-room : n ≤ length index
 
--- so many records as are written have room
-pub written-room : (ok : Bool) (n : ℕ) (upper lower : List Float) (signal index : List ℕ) → let k = writtenRecords ok n (roomOf upper lower signal index) in (k ≤ n) × Room k upper lower signal index
+-- the records that are written have room
+pub written-room : (ok : Bool) (n : ℕ) (upper lower : List Float) (signal index : List ℕ) → let k = countOf (admittedAs ok n (roomOf upper lower signal index)) in (k ≤ n) × Room k upper lower signal index
 written-room ok n upper lower signal index =
     let k = within-both ok n (roomOf upper lower signal index) in
     let s = shortest-least (length upper) (length lower) (length signal) (length index) in
@@ -63,3 +75,8 @@ module _ {c : Cusum} {xs : List Float} {n i : ℕ} {upper upper′ lower lower�
       index-left = one-filled shownOf startState nextState c xs n s i g s′ readings below e indexOf 0 index index′ (room .index-room) (f .index-left);
     },
   )
+
+-- the arrays so filled, and what is told of the answer, are the outcome
+pub arrays-are : {c : Cusum} {xs : List Float} {upper upper′ : List Float} {lower lower′ : List Float} {signal signal′ : List ℕ} {index index′ : List ℕ} (t : Counted) → let answer = admittedAs (accepted c) (length xs) (roomOf upper lower signal index) in t ≡ countedOf (said answer) → Filled c xs (countOf answer) upper upper′ lower lower′ signal signal′ index index′
+    → _≡_ {A = Counted × List Float × List Float × List ℕ × List ℕ} (t, upper′, lower′, signal′, index′) (cusumArrays c xs upper lower signal index)
+arrays-are t e f = rw (e, f .upper-left, f .lower-left, f .signal-left, f .index-left) refl

@@ -1,22 +1,35 @@
 -- The loop that fills the arrays of an EWMA chart: they have room, their lengths stay, and one reading more. Assumes nothing.
-use mathlib.Core.Path.{_≡_}
+use mathlib.Core.Path.{_≡_, refl}
 use Prim.Native.Nat.{ℕ, _+_, _≤_, _<_}
 use mathlib.Core.Bool.{Bool}
 use mathlib.Core.List.{List}
 use native.Mathlib.Omega.{arith}
 use lib.ListN.{length, set}
 use lib.Ieee.{Float, nan}
+use Rattle.refusals.specs.Tried.{countOf}
+use Rattle.refusals.specs.Said.{said}
+use Rattle.charts.specs.Answers.{admittedAs}
+use Rattle.charts.specs.Runs.{column, following}
 use Rattle.charts.proofs.Answers.{within-both}
-use Rattle.charts.specs.Runs.{following}
 use Rattle.charts.proofs.Columns.{Going, filled-length, one-gone, one-filled, all-filled}
 use Rattle.ewma.specs.declared.Ewma.{Ewma}
 use Rattle.ewma.specs.declared.EwmaResult.{EwmaResult}
-use Rattle.ewma.specs.Chart.{fresh, itself, nextRecord}
-use Rattle.c_charts.specs.Columns.{shorter, writtenRecords}
-use Rattle.c_charts.specs.EwmaColumns.{ewmaOf, uclOf, lclOf, signalOf, indexOf, Filled, roomOf}
+use Rattle.ewma.specs.Chart.{accepted, records, fresh, itself, nextRecord}
+use Rattle.c_answers.specs.declared.Counted.{Counted}
+use Rattle.c_answers.specs.Told.{countedOf}
+use Rattle.c_charts.specs.Columns.{shorter}
+use Rattle.c_charts.specs.EwmaColumns.{ewmaArrays, ewmaOf, uclOf, lclOf, signalOf, indexOf, roomOf}
 use Rattle.c_charts.proofs.Lengths.{shorter-least, shortest-least}
 
--- every array has room for n records
+-- each array has, for each of the first `n` readings of `xs`, that field of the record that `analyze` writes
+pub record Filled (c : Ewma) (xs : List Float) (n : ℕ) (ewma ewma′ ucl ucl′ lcl lcl′ : List Float) (signal signal′ index index′ : List ℕ) : Type 0 where
+  pub ewma-left : ewma′ ≡ column ewmaOf (records c xs n) ewma
+  pub ucl-left : ucl′ ≡ column uclOf (records c xs n) ucl
+  pub lcl-left : lcl′ ≡ column lclOf (records c xs n) lcl
+  pub signal-left : signal′ ≡ column signalOf (records c xs n) signal
+  pub index-left : index′ ≡ column indexOf (records c xs n) index
+
+-- every array has room for `n` records
 pub record Room (n : ℕ) (ewma ucl lcl : List Float) (signal index : List ℕ) : Type 0 where
   pub ewma-room : n ≤ length ewma
   pub ucl-room : n ≤ length ucl
@@ -24,8 +37,8 @@ pub record Room (n : ℕ) (ewma ucl lcl : List Float) (signal index : List ℕ) 
   pub signal-room : n ≤ length signal
   pub index-room : n ≤ length index
 
--- so many records as are written have room
-pub written-room : (ok : Bool) (n : ℕ) (ewma ucl lcl : List Float) (signal index : List ℕ) → let k = writtenRecords ok n (roomOf ewma ucl lcl signal index) in (k ≤ n) × Room k ewma ucl lcl signal index
+-- the records that are written have room
+pub written-room : (ok : Bool) (n : ℕ) (ewma ucl lcl : List Float) (signal index : List ℕ) → let k = countOf (admittedAs ok n (roomOf ewma ucl lcl signal index)) in (k ≤ n) × Room k ewma ucl lcl signal index
 written-room ok n ewma ucl lcl signal index =
     let k = within-both ok n (roomOf ewma ucl lcl signal index) in
     let h = shorter-least (length ewma) (length ucl) in
@@ -71,3 +84,8 @@ module _ {c : Ewma} {xs : List Float} {n i : ℕ} {ewma ewma′ ucl ucl′ lcl l
       index-left = one-filled itself fresh nextRecord c xs n s i g s′ readings below e indexOf 0 index index′ (room .index-room) (f .index-left);
     },
   )
+
+-- the arrays so filled, and what is told of the answer, are the outcome
+pub arrays-are : {c : Ewma} {xs : List Float} {ewma ewma′ : List Float} {ucl ucl′ : List Float} {lcl lcl′ : List Float} {signal signal′ : List ℕ} {index index′ : List ℕ} (t : Counted) → let answer = admittedAs (accepted c) (length xs) (roomOf ewma ucl lcl signal index) in t ≡ countedOf (said answer) → Filled c xs (countOf answer) ewma ewma′ ucl ucl′ lcl lcl′ signal signal′ index index′
+    → _≡_ {A = Counted × List Float × List Float × List Float × List ℕ × List ℕ} (t, ewma′, ucl′, lcl′, signal′, index′) (ewmaArrays c xs ewma ucl lcl signal index)
+arrays-are t e f = rw (e, f .ewma-left, f .ucl-left, f .lcl-left, f .signal-left, f .index-left) refl

@@ -1,5 +1,4 @@
 pub mod Lengths
 pub mod CusumLaws
 pub mod EwmaLaws
-pub mod Outcomes
 pub mod CusumPromise

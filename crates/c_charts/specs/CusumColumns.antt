@@ -1,15 +1,18 @@
 -- The records of a CUSUM chart (001) as arrays: what is told, and what each array holds afterwards. Definitions only.
 use Prim.Native.Nat.{ℕ}
-use mathlib.Core.Path.{_≡_}
 use mathlib.Core.List.{List}
 use lib.ListN.{length}
 use lib.Ieee.{Float}
+use Rattle.refusals.specs.Tried.{countOf}
+use Rattle.refusals.specs.Said.{said}
 use Rattle.charts.specs.Runs.{column}
+use Rattle.charts.specs.Answers.{admittedAs}
 use Rattle.cusum.specs.declared.Cusum.{Cusum}
 use Rattle.cusum.specs.declared.CusumResult.{CusumResult}
 use Rattle.cusum.specs.Chart.{accepted, records}
 use Rattle.c_answers.specs.declared.Counted.{Counted}
-use Rattle.c_charts.specs.Columns.{shortest, flag, toldRecords, writtenRecords}
+use Rattle.c_answers.specs.Told.{countedOf}
+use Rattle.c_charts.specs.Columns.{shortest, flag}
 
 -- the fields of a record, in their order
 abbrev pub upperOf : CusumResult → Float
@@ -24,18 +27,13 @@ signalOf r = flag (r .signal)
 abbrev pub indexOf : CusumResult → ℕ
 indexOf r = r .index .0
 
--- each array has, for each of the first n readings, that field of the record that `analyze` writes
-pub record Filled (c : Cusum) (xs : List Float) (n : ℕ) (upper upper′ lower lower′ : List Float) (signal signal′ index index′ : List ℕ) : Type 0 where
-  pub upper-left : upper′ ≡ column upperOf (records c xs n) upper
-  pub lower-left : lower′ ≡ column lowerOf (records c xs n) lower
-  pub signal-left : signal′ ≡ column signalOf (records c xs n) signal
-  pub index-left : index′ ≡ column indexOf (records c xs n) index
-
--- the room is that of the shortest
+-- the room of the four arrays is that of the shortest
 abbrev pub roomOf : List Float → List Float → List ℕ → List ℕ → ℕ
 roomOf upper lower signal index = shortest (length upper) (length lower) (length signal) (length index)
 
--- what is told, and so many records in each array
-pub record CusumArrays (c : Cusum) (xs : List Float) (upper upper′ lower lower′ : List Float) (signal signal′ index index′ : List ℕ) (t : Counted) : Type 0 where
-  pub told : t ≡ toldRecords (accepted c) (length xs) (roomOf upper lower signal index)
-  pub filled : Filled c xs (writtenRecords (accepted c) (length xs) (roomOf upper lower signal index)) upper upper′ lower lower′ signal signal′ index index′
+-- what `cusum_analyze` tells and leaves: each array has, in front, that field of the records that `analyze` writes
+abbrev pub cusumArrays : Cusum → List Float → List Float → List Float → List ℕ → List ℕ → Counted × List Float × List Float × List ℕ × List ℕ
+cusumArrays c xs upper lower signal index =
+    let answer = admittedAs (accepted c) (length xs) (roomOf upper lower signal index) in
+    let shown = records c xs (countOf answer) in
+    (countedOf (said answer), column upperOf shown upper, column lowerOf shown lower, column signalOf shown signal, column indexOf shown index)

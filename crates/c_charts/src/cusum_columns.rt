@@ -1,11 +1,14 @@
-// The arrays of a CUSUM chart.
-ghost use Rattle.c_charts.specs.CusumColumns.{CusumArrays};
+// The records of a CUSUM chart, an array for each field.
+ghost use mathlib.Core.Path.{_≡_};
+ghost use Rattle.c_charts.specs.CusumColumns.{cusumArrays};
 use crate::flag;
 use crate::shortest;
-use cusum::Cusum;
 use c_answers::Counted;
+use cusum::Cusum;
 
-// Both sums, whether one signals (1 or 0) and the index, for each reading. Cost: one step for each.
+// Writes, for each reading of `data`, both sums to `s_upper` and `s_lower`, to `signal` 1 where one
+// signals and 0 where none does, and the reading's index to `index`; the rest of each array is left.
+// Cost: one step for each reading.
 pub fn cusum_analyze(
     chart: Cusum,
     data: &[f64],
@@ -14,7 +17,7 @@ pub fn cusum_analyze(
     signal: &mut [u8],
     index: &mut [usize],
 ) -> Counted
-    ensures { λ r. ⌜ CusumArrays chart (now («data» .entry)) (now («s_upper» .entry)) (now («s_upper» .exit)) (now («s_lower» .entry)) (now («s_lower» .exit)) (now (signal .entry)) (now (signal .exit)) (now (index .entry)) (now (index .exit)) r ⌝ }
+    ensures { λ r. ⌜ (r, now («s_upper» .exit), now («s_lower» .exit), now (signal .exit), now (index .exit)) ≡ cusumArrays chart (now («data» .entry)) (now («s_upper» .entry)) (now («s_lower» .entry)) (now (signal .entry)) (now (index .entry)) ⌝ }
 {
     let room = shortest(s_upper.len(), s_lower.len(), signal.len(), index.len());
     let answer = cusum::judge(chart, data.len(), room);
@@ -31,5 +34,5 @@ pub fn cusum_analyze(
         index[i] = at.0;
         i += 1;
     }
-    c_answers::records(answer)
+    c_answers::answered(answer)
 }

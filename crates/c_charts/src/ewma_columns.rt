@@ -1,13 +1,15 @@
-// The arrays of an EWMA chart.
-ghost use Rattle.c_charts.specs.EwmaColumns.{EwmaArrays};
+// The records of an EWMA chart, an array for each field.
+ghost use mathlib.Core.Path.{_≡_};
+ghost use Rattle.c_charts.specs.EwmaColumns.{ewmaArrays};
 use crate::flag;
 use crate::shorter;
 use crate::shortest;
-use ewma::Ewma;
 use c_answers::Counted;
+use ewma::Ewma;
 
-// The statistic, the limits, whether it signals (1 or 0) and the index, for each reading. Cost: one
-// step for each.
+// Writes, for each reading of `data`, the statistic to `ewma`, the limits to `ucl` and `lcl`, to
+// `signal` 1 where it signals and 0 where it does not, and the reading's index to `index`; the rest of
+// each array is left. Cost: one step for each reading.
 pub fn ewma_analyze(
     chart: Ewma,
     data: &[f64],
@@ -17,7 +19,7 @@ pub fn ewma_analyze(
     signal: &mut [u8],
     index: &mut [usize],
 ) -> Counted
-    ensures { λ r. ⌜ EwmaArrays chart (now («data» .entry)) (now (ewma .entry)) (now (ewma .exit)) (now (ucl .entry)) (now (ucl .exit)) (now (lcl .entry)) (now (lcl .exit)) (now (signal .entry)) (now (signal .exit)) (now (index .entry)) (now (index .exit)) r ⌝ }
+    ensures { λ r. ⌜ (r, now (ewma .exit), now (ucl .exit), now (lcl .exit), now (signal .exit), now (index .exit)) ≡ ewmaArrays chart (now («data» .entry)) (now (ewma .entry)) (now (ucl .entry)) (now (lcl .entry)) (now (signal .entry)) (now (index .entry)) ⌝ }
 {
     let room = shortest(
         shorter(ewma.len(), ucl.len()),
@@ -40,5 +42,5 @@ pub fn ewma_analyze(
         index[i] = at.0;
         i += 1;
     }
-    c_answers::records(answer)
+    c_answers::answered(answer)
 }

@@ -3,7 +3,7 @@
 // No public function asks anything of its caller. `specs/CusumColumns` and `specs/EwmaColumns` say what
 // is told and what every lent array holds afterwards: at its front that field of the records that the
 // chart's `analyze` writes, and behind them what it held. A refusal changes nothing; 7 is told where
-// any array is too short. That one outcome meets this is proved (`proofs/Outcomes`).
+// any array is too short.
 mod cusum_columns;
 mod ewma_columns;
 

@@ -8,7 +8,7 @@ use lib.Seq.{getD-set-other}
 use lib.Ieee.{Float, nan}
 use Rattle.floats.specs.Numbers.{_+ᶠ_, _-ᶠ_}
 use Rattle.candidate.specs.declared.Candidate.{Candidate}
-use Rattle.candidate.specs.declared.Ball.{Ball}
+use Rattle.candidate_balls.specs.declared.Ball.{Ball}
 use Rattle.candidate.specs.Boxes.{Span, at, ballOf, spanAt, withSpan, overChannels, alongEach, gap2, narrowed, missed, nothing, restrict}
 
 -- a change along the first channel leaves what stands along the second

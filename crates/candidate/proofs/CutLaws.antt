@@ -10,7 +10,7 @@ use lib.Ieee.{Float}
 use Rattle.floats.specs.Numbers.{_+ᶠ_, _-ᶠ_}
 use Rattle.areas.proofs.PartLaws.{tab-at}
 use Rattle.candidate.specs.declared.Candidate.{Candidate}
-use Rattle.candidate.specs.declared.Ball.{Ball}
+use Rattle.candidate_balls.specs.declared.Ball.{Ball}
 use Rattle.candidate.specs.Boxes.{Span, ballOf, spanAt, withSpan, overChannels, alongEach, gone}
 use Rattle.candidate.specs.Balls.{ballAt, heldAt, held}
 use Rattle.candidate.specs.Cuts.{far2, cutSpan, cutBy, cutByRoot, cutRooted, cutTo}

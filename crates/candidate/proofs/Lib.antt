@@ -1,3 +1,4 @@
+pub mod AreaLaws
 pub mod BoxLaws
 pub mod CutLaws
 pub mod Examples

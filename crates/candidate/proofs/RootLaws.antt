@@ -18,7 +18,7 @@ use Rattle.candidate_sides.proofs.SlabLaws.{ends-outside}
 use Rattle.areas.specs.Parts.{tab}
 use Rattle.areas.proofs.PartLaws.{tab-length, tab-at}
 use Rattle.candidate.specs.declared.Candidate.{Candidate}
-use Rattle.candidate.specs.declared.Ball.{Ball}
+use Rattle.candidate_balls.specs.declared.Ball.{Ball}
 use Rattle.candidate.specs.Boxes.{Span, at, spanAt, withSpan, overChannels, alongEach}
 use Rattle.candidate.specs.Balls.{ballAt, heldAt, held, meant, ballsAt, Rooted, hasRoom}
 use Rattle.candidate.specs.Cuts.{far2, inside, cutEnds, cutSpan, cutBy, cutTo, cutLosing, cutByRoot, cutRooted, cutIn}

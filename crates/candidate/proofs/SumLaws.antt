@@ -10,7 +10,7 @@ use Rattle.floats.proofs.MinusZero.{Plain, plain-square, plain-max, plain-from-
 use Rattle.candidate.specs.declared.Candidate.{Candidate}
 use Rattle.candidate.specs.Boxes.{Span, at, spanAt, overChannels, gap2}
 use Rattle.candidate.specs.Cuts.{far2}
-use Rattle.candidate.specs.Started.{overChannelsFrom}
+use Rattle.candidate.specs.Inner.Started.{overChannelsFrom}
 
 gap-plain : (s : Span) (c : Float) → Plain (gap2 s c)
 unfolding gap2

@@ -1,15 +1,16 @@
 -- How the balls in which a candidate loses stand in an area. Definitions only.
-use Prim.Native.Nat.{ℕ, _+_}
+use Prim.Native.Nat.{ℕ, _+_, _*_}
 use mathlib.Core.Bool.{false, cond}
 use mathlib.Core.Path.{_≡_}
 use mathlib.Core.List.{List, []}
 use lib.Dec.{eqb}
 use lib.ListN.{getD}
 use lib.Ieee.{Float, nan}
+use Rattle.candidate_balls.specs.Losing.{losingBalls}
 use Rattle.floats.specs.Numbers.{_-ᶠ_, _<ᶠ_, +0}
 use Rattle.elementary.specs.Root.{sqrt}
 use Rattle.areas.specs.Parts.{tab}
-use Rattle.candidate.specs.declared.Ball.{Ball}
+use Rattle.candidate_balls.specs.declared.Ball.{Ball}
 use Rattle.candidate.specs.Boxes.{at, ballOf}
 -- the room for them
 unfoldable pub use Rattle.candidate_balls.specs.Losing.{hasRoom}
@@ -18,10 +19,10 @@ unfoldable pub use Rattle.candidate_balls.specs.Losing.{hasRoom}
 abbrev pub ballAt : List Ball → ℕ → Ball
 ballAt bs i = getD bs i (record { centre = []; r2 = +0 })
 
--- ---- the balls in an area: from a place on three runs of 64, the first numbers of the centres, the second numbers, and the squares of the radii
+-- ---- the balls in an area: three runs of 64, which begin at `place`, of the first numbers of the centres, the second numbers, and the squares of the radii
 
 unfoldable pub heldAt : List Float → ℕ → ℕ → Ball
-heldAt area place i = ballOf (getD area (place + i) nan) (getD area (place + 64 + i) nan) (getD area (place + 128 + i) nan)
+heldAt area place i = ballOf (getD area (place + i) nan) (getD area (place + losingBalls + i) nan) (getD area (place + 2 * losingBalls + i) nan)
 
 unfoldable pub held : List Float → ℕ → ℕ → List Ball
 held area place count = tab (heldAt area place) count

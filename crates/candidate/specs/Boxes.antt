@@ -8,7 +8,7 @@ use lib.Ieee.{Float, nan}
 use Rattle.floats.specs.Numbers.{_+ᶠ_, _-ᶠ_, _*ᶠ_, _<ᶠ_, +0, +∞, -∞}
 use Rattle.floats.specs.MaxMin.{larger}
 use Rattle.candidate.specs.declared.Candidate.{Candidate}
-use Rattle.candidate.specs.declared.Ball.{Ball}
+use Rattle.candidate_balls.specs.declared.Ball.{Ball}
 -- one side: a span, what a ball reaches of it, and whether anything is left of it
 pub use Rattle.candidate_sides.specs.declared.Span.{Span}
 pub use Rattle.candidate_sides.specs.Reach.{gone}

@@ -7,7 +7,7 @@ use lib.ListN.{length}
 use lib.Ieee.{Float}
 use Rattle.floats.specs.Numbers.{_-ᶠ_}
 use Rattle.candidate.specs.declared.Candidate.{Candidate}
-use Rattle.candidate.specs.declared.Ball.{Ball}
+use Rattle.candidate_balls.specs.declared.Ball.{Ball}
 use Rattle.candidate.specs.Boxes.{at, spanAt, withSpan, overChannels, alongEach, gone}
 use Rattle.candidate.specs.Balls.{ballAt, held, hasRoom}
 -- what a ball cuts from one side
@@ -38,7 +38,7 @@ cutLosing channels bs x = cutTo (cutBy channels) bs x (length bs)
 unfoldable pub cutRooted : Ball → Candidate → Candidate
 cutRooted b x = withSpan 0 (cutByRoot (spanAt x 0) (at (b .centre) 0) (at (b .centre) 1)) x
 
--- by the balls from a place on; the box as it is where there is no room for them
+-- by the `count` balls whose runs begin at `place`; the box as it is where there is no room for them
 unfoldable pub cutIn : ℕ → List Float → ℕ → ℕ → Candidate → Candidate
 cutIn channels area place count x =
     cond (hasRoom (length area) place count) (cutTo (cond (eqb channels 1) cutRooted (cutBy 2)) (held area place count) x count) x

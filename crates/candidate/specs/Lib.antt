@@ -1,6 +1,6 @@
 pub mod Boxes
 pub mod Balls
 pub mod Cuts
-pub mod Compared
+pub mod Dominated
 pub mod Losses
-pub mod Started
+pub mod Inner

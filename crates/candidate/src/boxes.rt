@@ -1,13 +1,14 @@
-// The box, and the ball that narrows it.
+// The box, the ball that narrows it, and whether anything is left of it.
 ghost use mathlib.Core.Path.{_≡_};
 ghost use Rattle.candidate.specs.Boxes.{gap2, nothing, spanAt, withSpan, ballOf, restrict};
-use crate::Ball;
+ghost use Rattle.candidate.specs.Dominated.{isDominated};
 use crate::Candidate;
-use floats::max;
+use candidate_balls::Ball;
 use candidate_sides::Span;
 use candidate_sides::narrowed;
+use floats::max;
 
-// The square of the distance from c to the span.
+// The square of the distance from `c` to `span`.
 fn gap2(span: Span, c: f64) -> f64
     ensures { λ r. ⌜ r ≡ gap2 span c ⌝ }
 {
@@ -25,7 +26,7 @@ fn nothing() -> Span
     }
 }
 
-// The sides of a box, and the box with another side.
+// The side of the box along the first channel, and along the second.
 pub(crate) fn first(candidate: Candidate) -> Span
     ensures { λ r. ⌜ r ≡ spanAt candidate 0 ⌝ }
 {
@@ -44,6 +45,7 @@ pub(crate) fn second(candidate: Candidate) -> Span
     }
 }
 
+// The box with `span` for its side along the first channel, and along the second.
 pub(crate) fn with_first(mut candidate: Candidate, span: Span) -> Candidate
     ensures { λ r. ⌜ r ≡ withSpan 0 span candidate ⌝ }
 {
@@ -61,6 +63,7 @@ pub(crate) fn with_second(mut candidate: Candidate, span: Span) -> Candidate
 }
 
 impl Candidate {
+    // `restrict` on one channel, by the ball of the centre `c` and the square `r2`.
     fn restrict_one(self, c: f64, r2: f64) -> Candidate
         ensures { λ r. ⌜ r ≡ restrict 1 (ballOf c c r2) self ⌝ }
     {
@@ -72,6 +75,7 @@ impl Candidate {
         with_first(self, narrowed(x, c, r2 - (gap - gap)))
     }
 
+    // `restrict` on two channels, by the ball of the centre `c`, `d` and the square `r2`.
     fn restrict_two(self, c: f64, d: f64, r2: f64) -> Candidate
         ensures { λ r. ⌜ r ≡ restrict 2 (ballOf c d r2) self ⌝ }
     {
@@ -87,7 +91,7 @@ impl Candidate {
         with_second(narrow, narrowed(y, d, r2 - (total - gap_beside)))
     }
 
-    // Narrows the box to the smallest box around what it shares with the ball. Cost: a root for each
+    // Narrows the box to the smallest box around what it shares with `ball`. Cost: a root for each
     // channel.
     pub fn restrict(mut self, channels: usize, ball: Ball) -> Candidate
         ensures { λ r. ⌜ r ≡ restrict channels ball self ⌝ }
@@ -98,5 +102,16 @@ impl Candidate {
         }
         self = self.restrict_two(ball.centre[0], ball.centre[1], ball.r2);
         self
+    }
+
+    // Whether nothing is left of the box along one of the channels.
+    pub fn is_dominated(self, channels: usize) -> bool
+        ensures { λ r. ⌜ r ≡ isDominated channels self ⌝ }
+    {
+        let first = self.hi[0] < self.lo[0];
+        if channels == 1 {
+            return first;
+        }
+        first | (self.hi[1] < self.lo[1])
     }
 }

@@ -1,7 +1,8 @@
 // What the losing balls cut from the box.
 ghost use mathlib.Core.Path.{_≡_};
-ghost use Prim.Native.Nat.{_+_, _≤_, _<_};
+ghost use Prim.Native.Nat.{_+_, _≤_, _<_, _*_};
 ghost use lib.ListN.{length, getD};
+ghost use Rattle.candidate_balls.specs.Losing.{losingBalls};
 ghost use Rattle.candidate.specs.Boxes.{ballOf};
 ghost use Rattle.candidate.specs.Balls.{held};
 ghost use Rattle.candidate.specs.Cuts.{cutBy, cutRooted, cutTo, cutIn};
@@ -15,7 +16,7 @@ use candidate_sides::cut_by_root;
 use candidate_sides::cut_span;
 use candidate_sides::far2;
 
-// By one ball on two channels.
+// Cuts the box by one ball on two channels, of the centre `c`, `d` and the square `r2`.
 fn cut_by(candidate: Candidate, c: f64, d: f64, r2: f64) -> Candidate
     ensures { λ r. ⌜ r ≡ cutBy 2 (ballOf c d r2) candidate ⌝ }
 {
@@ -28,9 +29,10 @@ fn cut_by(candidate: Candidate, c: f64, d: f64, r2: f64) -> Candidate
     with_second(cut, cut_span(y, d, r2, total - far_beside))
 }
 
-// Cost: one turn for each ball, until the box is empty along the first channel; no root.
+// Cuts the box on one channel by the `count` balls at `place` of `balls`, each by the root that stands
+// there. Cost: one turn for each ball, until the box is empty along the first channel; no root.
 fn cut_one(mut candidate: Candidate, balls: &[f64], place: usize, count: usize) -> Candidate
-    requires { ⌜ (place + 192 ≤ length (now balls)) × (count ≤ 64) ⌝ }
+    requires { ⌜ (place + 3 * losingBalls ≤ length (now balls)) × (count ≤ losingBalls) ⌝ }
     ensures { λ r. ⌜ r ≡ cutTo cutRooted (held (now (balls .entry)) place count) candidate count ⌝ }
 {
     let mut i = 0;
@@ -46,10 +48,11 @@ fn cut_one(mut candidate: Candidate, balls: &[f64], place: usize, count: usize) 
     candidate
 }
 
-// Cost: one turn for each ball, until the box is empty along the first channel; a root for each channel
-// along which an end of the box lies in the ball, or nearly so.
+// Cuts the box on two channels by the `count` balls at `place` of `balls`. Cost: one turn for each ball,
+// until the box is empty along the first channel; a root for each channel along which an end of the box
+// lies in the ball, or nearly so.
 fn cut_two(mut candidate: Candidate, balls: &[f64], place: usize, count: usize) -> Candidate
-    requires { ⌜ (place + 192 ≤ length (now balls)) × (count ≤ 64) ⌝ }
+    requires { ⌜ (place + 3 * losingBalls ≤ length (now balls)) × (count ≤ losingBalls) ⌝ }
     ensures { λ r. ⌜ r ≡ cutTo (cutBy 2) (held (now (balls .entry)) place count) candidate count ⌝ }
 {
     let mut i = 0;
@@ -70,8 +73,8 @@ fn cut_two(mut candidate: Candidate, balls: &[f64], place: usize, count: usize) 
 }
 
 impl Candidate {
-    // Cuts from the box every slab inside a ball where the candidate loses, of the balls that stand in
-    // the area from a place on, so many of them; nothing is cut where there is no room for them.
+    // Cuts from the box every slab inside a ball where the candidate loses: `count` balls, whose runs
+    // begin at `place` of `balls`. Nothing is cut where `balls` has no room for the runs.
     pub fn cut_losing(
         mut self,
         channels: usize,

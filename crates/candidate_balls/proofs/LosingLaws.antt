@@ -1,4 +1,4 @@
--- Laws of the losing balls in an area: the room, the narrowest, and the ways through `lose`. Assumes nothing.
+-- Laws of the losing balls in an area: the room, the narrowest, and the ways through `lose_inside`. Assumes nothing.
 use Prim.Native.Nat.{ℕ, zero, suc, _+_, _-_, _≤_, _<_}
 use mathlib.Core.Bool.{Bool, true, false, _&&_, cond, false≢true}
 use mathlib.Core.Path.{_≡_, refl, sym, _∙_}
@@ -7,10 +7,12 @@ use borrow.Author.Tests.{le-leb, lt-leb, leb-true, leb-false, lt-ltb, le-ltb}
 use native.Mathlib.Omega.{arith}
 use native.Mathlib.Numerals.{add-one}
 use lib.Dec.{leb}
-use lib.ListN.{length}
-use lib.Ieee.{Float}
+use lib.ListN.{length, getD}
+use lib.Ieee.{Float, nan}
+use Rattle.logic.proofs.Laws.{both}
 use Rattle.floats.specs.Numbers.{_≤ᶠ_, +0}
 use Rattle.floats.specs.Ahead.{ahead}
+use Rattle.candidate_balls.specs.declared.Ball.{Ball}
 use Rattle.candidate_balls.specs.Losing.{hasRoom, radiusAt, narrowestIn, putBall, copyLast, secondNumber, displaced, areaWith, countWith, Lost}
 
 -- ---- the room
@@ -37,11 +39,6 @@ room-many size place count h = rw (lt-leb count 64 h) refl
 pub room-fits : (size place count : ℕ) → hasRoom size place count ≡ true → (place + 192 ≤ size) × (count ≤ 64)
 unfolding hasRoom
 room-fits size place count e = let b = both _ _ e in (leb-true (place + 192) size (b .1), leb-true count 64 (b .0))
-  where
-    both : (s t : Bool) → (s && t) ≡ true → (s ≡ true) × (t ≡ true)
-    both true true r = (refl, refl)
-    both true false r = absurd (false≢true r)
-    both false t r = absurd (false≢true r)
 
 -- ---- the narrowest
 pub narrowest-within : (area : List Float) (place n : ℕ) → narrowestIn area place n ≤ n
@@ -73,21 +70,21 @@ module _ (area : List Float) (place : ℕ) (c d r2 : Float) {i : ℕ} (ei : i �
   unfolding displaced
   displaced-so e ey ek ez = ez ∙ (rw (ek, ey, ← ei, e) refl)
 
--- ---- the ways through `lose`
-module _ {channels : ℕ} {area : List Float} {place count : ℕ} {c d r2 : Float} where
-  pub lost-not : hasRoom (length area) place count ≡ false → Lost channels area area place count c d r2 count
+-- ---- the ways through `lose_inside`
+module _ {channels : ℕ} {area : List Float} {place count : ℕ} {b : Ball} where
+  pub lost-not : hasRoom (length area) place count ≡ false → Lost channels area area place count b count
   lost-not e = record { left = rw e refl; said = rw e refl }
 
   module _ (room : hasRoom (length area) place count ≡ true) where
-    pub lost-empty : (r2 ≤ᶠ +0) ≡ true → Lost channels area area place count c d r2 count
+    pub lost-empty : (b .r2 ≤ᶠ +0) ≡ true → Lost channels area area place count b count
     unfolding areaWith countWith
     lost-empty e = record { left = rw (room, e) refl; said = rw (room, e) refl }
 
-    pub lost-more : {k : Float} {y : List Float} → (r2 ≤ᶠ +0) ≡ false → count < 64 → k ≡ secondNumber channels d r2 → y ≡ putBall area place count c k r2
-        → Lost channels area y place count c d r2 (count + 1)
+    pub lost-more : {k : Float} {y : List Float} → (b .r2 ≤ᶠ +0) ≡ false → count < 64 → k ≡ secondNumber channels (getD (b .centre) 1 nan) (b .r2) → y ≡ putBall area place count (getD (b .centre) 0 nan) k (b .r2)
+        → Lost channels area y place count b (count + 1)
     unfolding areaWith countWith
     lost-more e h ek ey = record { left = ey ∙ (rw (ek, room, e, lt-ltb count 64 h) refl); said = rw (room, e, lt-ltb count 64 h) refl }
 
-    pub lost-full : {y : List Float} → (r2 ≤ᶠ +0) ≡ false → 64 ≤ count → y ≡ displaced area place c (secondNumber channels d r2) r2 → Lost channels area y place count c d r2 count
+    pub lost-full : {y : List Float} → (b .r2 ≤ᶠ +0) ≡ false → 64 ≤ count → y ≡ displaced area place (getD (b .centre) 0 nan) (secondNumber channels (getD (b .centre) 1 nan) (b .r2)) (b .r2) → Lost channels area y place count b count
     unfolding areaWith countWith
     lost-full e h ey = record { left = ey ∙ (rw (room, e, le-ltb count 64 h) refl); said = rw (room, e, le-ltb count 64 h) refl }

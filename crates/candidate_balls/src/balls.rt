@@ -1,8 +1,9 @@
-// The three runs: a ball put there, and one more for a full list.
+// The three runs that begin at `place` of an area: a ball put there, and one more for a full list.
 ghost use mathlib.Core.Path.{_≡_};
-ghost use Prim.Native.Nat.{_+_, _≤_, _<_};
+ghost use Prim.Native.Nat.{_+_, _≤_, _<_, _*_};
 ghost use lib.ListN.{length};
-ghost use Rattle.candidate_balls.specs.Losing.{narrowestIn, secondNumber, putBall, copyLast, hasRoom, displaced, Lost};
+ghost use Rattle.candidate_balls.specs.Losing.{narrowestIn, secondNumber, putBall, copyLast, hasRoom, displaced, Lost, losingBalls};
+use crate::Ball;
 use crate::LAST;
 use crate::LOSING_BALLS;
 use crate::RADII;
@@ -11,8 +12,8 @@ use crate::SECONDS;
 use elementary::sqrt;
 use floats::ahead;
 
-// Whether an area of so many places has three runs from a place on, and count is one of balls; no sum
-// is formed that could wrap.
+// Whether an area of `size` floats has room for the three runs from `place`, and `count` is at most 64;
+// no sum is formed that could wrap.
 pub fn has_room(size: usize, place: usize, count: usize) -> bool
     ensures { λ r. ⌜ r ≡ hasRoom size place count ⌝ }
 {
@@ -24,8 +25,9 @@ pub fn has_room(size: usize, place: usize, count: usize) -> bool
     false
 }
 
+// Stores the centre `c`, `d` and the square `r2` as ball `i` of the runs at `place`.
 fn put_ball(balls: &mut [f64], place: usize, i: usize, c: f64, d: f64, r2: f64)
-    requires { ⌜ (place + 192 ≤ length (now balls)) × (i < 64) ⌝ }
+    requires { ⌜ (place + 3 * losingBalls ≤ length (now balls)) × (i < losingBalls) ⌝ }
     ensures { λ r. ⌜ now (balls .exit) ≡ putBall (now (balls .entry)) place i c d r2 ⌝ }
 {
     balls[place + i] = c;
@@ -33,9 +35,9 @@ fn put_ball(balls: &mut [f64], place: usize, i: usize, c: f64, d: f64, r2: f64)
     balls[place + RADII + i] = r2;
 }
 
-// The last of 64 balls goes to place i as well.
+// Copies the last of 64 balls over ball `i`.
 fn copy_last(balls: &mut [f64], place: usize, i: usize)
-    requires { ⌜ (place + 192 ≤ length (now balls)) × (i < 64) ⌝ }
+    requires { ⌜ (place + 3 * losingBalls ≤ length (now balls)) × (i < losingBalls) ⌝ }
     ensures { λ r. ⌜ now (balls .exit) ≡ copyLast (now (balls .entry)) place i ⌝ }
 {
     let c = balls[place + LAST];
@@ -44,8 +46,8 @@ fn copy_last(balls: &mut [f64], place: usize, i: usize)
     put_ball(balls, place, i, c, d, r2);
 }
 
-// What stands in the second run: on one channel the second number of the centre is free, and the root
-// stands there, so that cutting takes none.
+// What the second run holds for a ball: `d`, the second number of its centre. On one channel that is
+// free, and the root of `r2` stands there, so that cutting takes none.
 fn second_number(channels: usize, d: f64, r2: f64) -> f64
     ensures { λ r. ⌜ r ≡ secondNumber channels d r2 ⌝ }
 {
@@ -55,10 +57,10 @@ fn second_number(channels: usize, d: f64, r2: f64) -> f64
     d
 }
 
-// The place of the narrowest of 64 balls, the earliest on a tie. Cost: one turn for each ball.
+// Which of 64 balls is the narrowest, from 0, the earliest on a tie. Cost: one turn for each ball.
 fn narrowest(balls: &[f64], place: usize) -> usize
-    requires { ⌜ place + 192 ≤ length (now balls) ⌝ }
-    ensures { λ r. ⌜ (r ≡ narrowestIn (now (balls .entry)) place 63) × (r < 64) ⌝ }
+    requires { ⌜ place + 3 * losingBalls ≤ length (now balls) ⌝ }
+    ensures { λ r. ⌜ (r ≡ narrowestIn (now (balls .entry)) place 63) × (r < losingBalls) ⌝ }
 {
     let mut least = 0;
     let mut i = 0;
@@ -72,10 +74,10 @@ fn narrowest(balls: &[f64], place: usize) -> usize
     least
 }
 
-// One more ball for 64: the last one moves into the place of the narrowest, and the new one goes last,
-// unless it is no wider.
+// One more ball for 64, of the centre `c`, `d` and the square `r2`: the last one takes the place of the
+// narrowest, and the new one goes last. One that is no wider than the narrowest is turned away.
 fn displace(channels: usize, balls: &mut [f64], place: usize, c: f64, d: f64, r2: f64)
-    requires { ⌜ place + 192 ≤ length (now balls) ⌝ }
+    requires { ⌜ place + 3 * losingBalls ≤ length (now balls) ⌝ }
     ensures { λ r. ⌜ now (balls .exit) ≡ displaced (now (balls .entry)) place c (secondNumber channels d r2) r2 ⌝ }
 {
     let i = narrowest(balls, place);
@@ -86,20 +88,21 @@ fn displace(channels: usize, balls: &mut [f64], place: usize, c: f64, d: f64, r2
     put_ball(balls, place, LAST, c, second_number(channels, d, r2), r2);
 }
 
-// Notes that the candidate whose balls stand here, so many of them, loses inside one more, and says
-// how many there are then; nothing is done where there is no room. Cost: 64 turns with a full list,
-// and a root on one channel for a ball that is kept.
-pub fn lose(
+// Adds `ball` to the `count` balls of a candidate, whose runs begin at `place` of `balls`, and says how
+// many there are then; nothing is done where `balls` has no room for the runs. Cost: 64 turns with a
+// full list, and a root on one channel for a ball that is kept.
+pub fn lose_inside(
     channels: usize,
     balls: &mut [f64],
     place: usize,
     count: usize,
-    c: f64,
-    d: f64,
-    r2: f64,
+    ball: Ball,
 ) -> usize
-    ensures { λ r. ⌜ Lost channels (now (balls .entry)) (now (balls .exit)) place count c d r2 r ⌝ }
+    ensures { λ r. ⌜ Lost channels (now (balls .entry)) (now (balls .exit)) place count ball r ⌝ }
 {
+    let c = ball.centre[0];
+    let d = ball.centre[1];
+    let r2 = ball.r2;
     if has_room(balls.len(), place, count) {
         if r2 <= 0.0 {
             return count;

@@ -1,4 +1,5 @@
-// A side of a box along one channel: what a ball reaches of it, and what a ball cuts from it.
+// `Span`, the side of a candidate's box along one channel: what a ball reaches of it (`narrowed`), and
+// what a ball in which the candidate loses cuts from it (`cut_span`, `cut_by_root`).
 //
 // No function asks anything of its caller. Each result is to the bit what the definition says that
 // its contract names: `specs/Reach` for what a ball reaches, `specs/Slabs` for what it cuts.
@@ -10,6 +11,7 @@ pub use slabs::cut_by_root;
 pub use slabs::cut_span;
 pub use slabs::far2;
 
+// From its low end to its high end; nothing is left of it where `hi` is below `lo`.
 pub struct Span {
     pub lo: f64,
     pub hi: f64,

@@ -6,8 +6,8 @@ use elementary::sqrt;
 use floats::max;
 use floats::min;
 
-// The part of the span that a ball reaches about c, where `room` is what the other channels leave of
-// the square of its radius.
+// The part of `span` that a ball reaches whose centre is `c` along this channel, where `room` is what
+// the other channels leave of the square of its radius.
 pub fn narrowed(span: Span, c: f64, room: f64) -> Span
     ensures { λ r. ⌜ r ≡ narrowed span c room ⌝ }
 {

@@ -13,7 +13,7 @@ use elementary::sqrt;
 use floats::finite;
 use floats::max;
 
-// The square of the distance from c to the farther end of the span.
+// The square of the distance from `c` to the farther end of `span`.
 pub fn far2(span: Span, c: f64) -> f64
     ensures { λ r. ⌜ r ≡ far2 span c ⌝ }
 {
@@ -22,14 +22,14 @@ pub fn far2(span: Span, c: f64) -> f64
     max(low * low, high * high)
 }
 
-// Whether v lies from c - w to c + w.
+// Whether `v` lies from `c - w` to `c + w`.
 fn inside(c: f64, w: f64, v: f64) -> bool
     ensures { λ r. ⌜ r ≡ inside c w v ⌝ }
 {
     (c - w <= v) & (v <= c + w)
 }
 
-// The end v of a span, and `to` in its place where it lies inside.
+// The end `v` of a span, or `to` instead where `v` lies from `c - w` to `c + w`.
 fn moved(c: f64, w: f64, v: f64, to: f64) -> f64
     ensures { λ r. ⌜ r ≡ moved c w v to ⌝ }
 {
@@ -39,7 +39,7 @@ fn moved(c: f64, w: f64, v: f64, to: f64) -> f64
     v
 }
 
-// The ends that lie from c - w to c + w go to the far side of it.
+// `span` with each end that lies from `c - w` to `c + w` moved to the far side of that.
 fn cut_ends(span: Span, c: f64, w: f64) -> Span
     ensures { λ r. ⌜ r ≡ cutEnds span c w ⌝ }
 {
@@ -48,8 +48,8 @@ fn cut_ends(span: Span, c: f64, w: f64) -> Span
     Span { lo, hi }
 }
 
-// A value that is at least the root of the number with this bit pattern, and at most 7% above it: half
-// the pattern is about half the exponent.
+// A value that is at least the root of the number whose bits are `pattern`, and at most 7% above it:
+// half the pattern is about half the exponent.
 fn above_root(pattern: u64) -> f64
     requires { ⌜ (2 ^ 52 ≤ pattern) × (pattern < 2047 * 2 ^ 52) ⌝ }
     ensures { λ u. ⌜ T (sqrt (ofBits binary64 pattern) ≤ᶠ u) × T (finite u) ⌝ }
@@ -57,8 +57,8 @@ fn above_root(pattern: u64) -> f64
     f64::from_bits(pattern / 2 + 0x1ff8_0000_0000_0001)
 }
 
-// Whether a bound of the root of the square shows that no end lies inside, so that no root is needed.
-// It says no for a square at the ends of the range.
+// Whether a bound of the root of `square` shows that no end of `span` lies within that root of `c`, so
+// that the root need not be taken. It says no for a square at the ends of the range.
 fn misses(span: Span, c: f64, square: f64) -> bool
     ensures { λ r. ⌜ (r ≡ true → cutEnds span c (sqrt square) ≡ span) ⌝ }
 {
@@ -72,8 +72,8 @@ fn misses(span: Span, c: f64, square: f64) -> bool
     false
 }
 
-// By a ball that reaches past the rest, which is what the other channels have of far2. A root is taken
-// only where an end lies inside or nearly so.
+// Cuts `span` by a ball about `c` with the square `r2`, where this is not below `rest`, which is what
+// the other channels have of `far2`. A root is taken only where an end lies inside or nearly so.
 pub fn cut_span(span: Span, c: f64, r2: f64, rest: f64) -> Span
     ensures { λ r. ⌜ r ≡ cutSpan span c r2 rest ⌝ }
 {
@@ -87,8 +87,8 @@ pub fn cut_span(span: Span, c: f64, r2: f64, rest: f64) -> Span
     cut_ends(span, c, sqrt(square))
 }
 
-// By a ball on one channel, of which the root w is known. Whether far2 is finite is asked only where
-// an end lies inside: where it is not, the rest is no number and nothing is cut.
+// Cuts `span` on one channel by a ball about `c` whose radius is `w`. Whether `far2` is finite is asked
+// only where an end lies inside: where it is not, the rest is no number and nothing is cut.
 pub fn cut_by_root(span: Span, c: f64, w: f64) -> Span
     ensures { λ r. ⌜ r ≡ cutByRoot span c w ⌝ }
 {

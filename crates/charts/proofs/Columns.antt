@@ -1,4 +1,4 @@
--- The loop that fills one array for each field of a chart's records, for any chart and field: what is known after i readings, and one reading more. Assumes nothing.
+-- The loop that fills one array for each field of a chart's records, for any chart and field: what is known after `i` readings, and one reading more. Assumes nothing.
 use mathlib.Core.Path.{_≡_, refl, _∙_, ap}
 use Prim.Native.Nat.{ℕ, suc, _≤_, _<_, _+_}
 use mathlib.Core.List.{List, [], _∷_, _++_, map, map-append}
@@ -10,7 +10,7 @@ use Rattle.charts.specs.Runs.{stateAt, recordAt, records, following, col
 use Rattle.charts.proofs.Runs.{following-is, lent-more, length-lent, length-records}
 
 module _ {C S D : Type 0} (shown : S → D) (start : C → S) (step : C → S → ℕ → Float → S) (c : C) (xs : List Float) (n : ℕ) where
-  -- after i of n readings the state is s
+  -- after `i` of `n` readings the state is `s`
   pub record Going (s : S) (i : ℕ) : Type 0 where
     pub within : i ≤ n
     pub state : s ≡ stateAt shown start step c xs i
@@ -18,7 +18,7 @@ module _ {C S D : Type 0} (shown : S → D) (start : C → S) (step : C → S �
   pub not-gone : Going (start c) 0
   not-gone = record { within = omega arith; state = refl }
 
-  -- an array of one field, of the first i records
+  -- the array `entry` with one field of the first `i` records at its front
   abbrev pub filled : {A : Type 0} → (D → A) → ℕ → List A → List A
   filled field i entry = column field (records shown start step c xs i) entry
 
@@ -27,7 +27,7 @@ module _ {C S D : Type 0} (shown : S → D) (start : C → S) (step : C → S �
       let e : length (map field (records shown start step c xs i)) ≡ i = length-map (records shown start step c xs i) field ∙ length-records shown start step c xs i in
       ap length f ∙ length-lent (map field (records shown start step c xs i)) entry (omega (arith, e, h, room))
 
-  -- a turn: the reading at i
+  -- a turn: the reading at `i`
   module _ (s : S) (i : ℕ) (g : Going s i) (s′ : S) (readings : n ≤ length xs) (below : i < n) (next : s′ ≡ following step c xs i s) where
     moves : s′ ≡ stateAt shown start step c xs (suc i)
     moves = next ∙ following-is step c xs i s (omega (arith, below, readings)) ∙ ap (λ (t : S). step c t i (getD xs i nan)) (g .state)

@@ -1,7 +1,6 @@
 pub mod Answers
-pub mod Outcomes
 pub mod Loops
-pub mod ChartedKind
+pub mod AnswerKind
 pub mod Plain
 pub mod Runs
 pub mod Points

@@ -1,7 +1,7 @@
--- The two loops over a series, for any chart: what is known in that of `signal_points` after i readings, and that the answers and lists that both leave are those of their contracts. Assumes nothing.
-use mathlib.Core.Path.{_≡_, refl, sym, _∙_, ap}
-use Prim.Native.Nat.{ℕ, suc, _≤_, _<_, _+_, _-_}
-use mathlib.Core.Bool.{Bool, true, false, not, cond}
+-- The two loops over a series, for any chart: what is known in that of `signal_points` after `i` readings, and that both come to the outcomes of their contracts. Assumes nothing.
+use mathlib.Core.Path.{_≡_, refl, sym, _∙_, ap, ap₂}
+use Prim.Native.Nat.{ℕ, suc, _≤_, _<_, _+_}
+use mathlib.Core.Bool.{Bool, true, false, cond}
 use mathlib.Core.List.{List, [], _∷_, _++_}
 use native.Mathlib.Omega.{arith}
 use native.Mathlib.Numerals.{add-one}
@@ -9,21 +9,25 @@ use borrow.Author.Tests.{lt-ltb}
 use lib.Dec.{ltb}
 use lib.ListN.{length, getD, set, length-append}
 use lib.Ieee.{Float, nan}
-use Rattle.refusals.specs.Stated.{stated}
-use Rattle.refusals.specs.Said.{Said, refused, answered, tried}
+use Rattle.refusals.specs.Limits.{maxReadings}
+use Rattle.refusals.specs.Tried.{tried, countOf}
 use Rattle.refusals.specs.declared.Refusal.the-variants as Refusal
+use Rattle.refusals.specs.declared.Answer.{Answer}
+use Rattle.refusals.specs.declared.Answer.the-variants as Answer
 use Rattle.charts.specs.Runs.{stateAt, records, points, lent}
 use Rattle.charts.proofs.Runs.{lent-more, length-lent, points-few, written, written-lent}
-use Rattle.charts.specs.declared.Charted.{Charted}
-use Rattle.charts.specs.declared.Charted.the-variants as Charted
-use Rattle.charts.specs.declared.Signalled.the-variants as Signalled
-use Rattle.charts.specs.Answers.{signalled, chartAnswer, admittedAs, countOf, signalledAs}
-use Rattle.charts.specs.Contracts.{Analyzed, Noted, Stands, Marked, marks}
-use Rattle.charts.proofs.Answers.{admitted-says, within-both}
-use Rattle.charts.proofs.Outcomes.{analyzed-once}
+use Rattle.charts.specs.Answers.{chartAnswer, admittedAs, recounted}
+use Rattle.charts.specs.Outcomes.{analyzed, provided, signalled}
+use Rattle.charts.specs.Notes.{noted}
+use Rattle.charts.proofs.Answers.{by-tests, within-both}
+
+-- `points` stand at the front of the lent indices, and `count` is their number
+pub record Stands (points entry : List ℕ) (count : ℕ) (exit : List ℕ) : Type 0 where
+  pub counted : count ≡ length points
+  pub written : exit ≡ lent points entry
 
 module _ {C S D : Type 0} (shown : S → D) (start : C → S) (step : C → S → ℕ → Float → S) (signals : D → Bool) (c : C) (xs : List Float) (n : ℕ) (entry : List ℕ) where
-  -- after i readings the state is s, and the indices among them that signal stand at the front of l
+  -- after `i` readings the state is `s`, and the indices among them that signal stand at the front of `l`
   pub record Marking (s : S) (count i : ℕ) (l : List ℕ) : Type 0 where
     pub within : i ≤ n
     pub state : s ≡ stateAt shown start step c xs i
@@ -41,8 +45,8 @@ module _ {C S D : Type 0} (shown : S → D) (start : C → S) (step : C → S �
     pub all-marked : n ≤ i → Stands (points shown start step c xs signals n) entry count l
     all-marked h = let e : n ≡ i = omega (arith, h, m .within) in rw e (m .stands)
 
-    -- a turn: the reading at i, and its index noted
-    module _ (s' : S) (r : ℕ) (l' : List ℕ) (below : i < n) (next : s' ≡ step c s i (getD xs i nan)) (noted : Noted (signals (shown s')) i count l r l') where
+    -- a turn: the reading at `i`, and its index noted
+    module _ (s' : S) (r : ℕ) (l' : List ℕ) (below : i < n) (next : s' ≡ step c s i (getD xs i nan)) (left : _≡_ {A = ℕ × List ℕ} (r, l') (noted (signals (shown s')) i count l)) where
       moves : s' ≡ stateAt shown start step c xs (suc i)
       moves = next ∙ ap (λ (t : S). step c t i (getD xs i nan)) (m .state)
 
@@ -53,59 +57,54 @@ module _ {C S D : Type 0} (shown : S → D) (start : C → S) (step : C → S �
       stands-more : (b : Bool) → signals (shown s') ≡ b → let p = points shown start step c xs signals i in Stands (cond b (p ++ (i ∷ [])) p) entry r l'
       stands-more true e =
           let p = points shown start step c xs signals i in
+          let more = rw (e, room-for) at left in
           record {
-            counted = rw (e, room-for) at (noted .counted) ∙ ap (λ (k : ℕ). k + 1) (m .stands .counted) ∙ sym (length-append p (i ∷ []));
+            counted = ap (λ (o : ℕ × List ℕ). o .0) more ∙ ap (λ (k : ℕ). k + 1) (m .stands .counted) ∙ sym (length-append p (i ∷ []));
             written =
-                rw (e, room-for) at (noted .written)
+                ap (λ (o : ℕ × List ℕ). o .1) more
                 ∙ ap (λ (t : List ℕ). set t count i) (m .stands .written)
                 ∙ lent-more p entry i 0 count (sym (m .stands .counted)) (omega (arith, points-few shown start step c xs signals i, m .stands .counted, below));
           }
-      stands-more false e = record { counted = rw e at (noted .counted) ∙ m .stands .counted; written = rw e at (noted .written) ∙ m .stands .written }
+      stands-more false e = let same = rw e at left in record { counted = ap (λ (o : ℕ × List ℕ). o .0) same ∙ m .stands .counted; written = ap (λ (o : ℕ × List ℕ). o .1) same ∙ m .stands .written }
 
       pub one-more : Marking s' r (i + 1) l'
       one-more =
           let tells : signals (shown s') ≡ signals (shown (stateAt shown start step c xs (suc i))) = ap (λ (t : S). signals (shown t)) moves in
           record { within = omega (arith, below); state = rw add-one moves; stands = rw add-one (stands-more (signals (shown (stateAt shown start step c xs (suc i)))) tells) }
 
--- the answer of `analyze` by the three tests, and what is said of a result by them
-abbrev by-tests : ℕ → Bool → Bool → Bool → Charted
-by-tests n a b c = cond a (cond b (Charted.Refused Refusal.TooLong) (cond c (Charted.Refused Refusal.Room) (Charted.Records n))) (Charted.Refused Refusal.Chart)
-
-abbrev said-by : ℕ → Bool → Bool → Bool → Said
-said-by value a b c = cond (not a) (refused (stated Refusal.Chart)) (cond b (refused (stated Refusal.TooLong)) (cond c (refused (stated Refusal.Room)) (answered (value ∷ []))))
-
--- ---- the answer and the indices of `signal_points`: as many readings are marked as the answer of `analyze` stands for
-pub marked : (ok : Bool) (n : ℕ) (pts : ℕ → List ℕ) (entry : List ℕ) (count : ℕ) (l : List ℕ) → pts 0 ≡ []
-    → Stands (pts (countOf (admittedAs ok n (length entry)))) entry count l → Marked ok n (pts n) entry (signalledAs (admittedAs ok n (length entry)) count) l
-unfolding admittedAs chartAnswer tried
-marked ok n pts entry count l z s = let p = go ok (ltb 4096 n) (ltb (length entry) n) s in record { answer = p .0; written = p .1 }
+-- ---- the outcome of `signal_points`: as many readings are looked at as the answer of `analyze` stands for
+pub signalled-leaves : (ok : Bool) (n : ℕ) (pts : ℕ → List ℕ) (entry : List ℕ) (count : ℕ) (l : List ℕ) → pts 0 ≡ []
+    → Stands (pts (countOf (admittedAs ok n (length entry)))) entry count l → _≡_ {A = Answer × List ℕ} (recounted (admittedAs ok n (length entry)) count, l) (signalled ok n (pts n) entry)
+unfolding chartAnswer tried
+signalled-leaves ok n pts entry count l z s = go ok (ltb maxReadings n) (ltb (length entry) n) s
   where
     -- a refusal stands for no index
     nothing : Stands (pts 0) entry count l → l ≡ entry
     nothing s = s .written ∙ ap (λ (p : List ℕ). lent p entry) z
 
     go : (a b c : Bool) → let r = by-tests n a b c in Stands (pts (countOf r)) entry count l
-        → (signalled (signalledAs r count) ≡ said-by (length (pts n)) a b c) × (l ≡ lent (marks (signalledAs r count) (pts n)) entry)
-    go false b c s = (refl, nothing s)
-    go true true c s = (refl, nothing s)
-    go true false true s = (refl, nothing s)
-    go true false false s = (ap (λ (m : ℕ). answered (m ∷ [])) (s .counted), s .written)
+        → _≡_ {A = Answer × List ℕ} (recounted r count, l) (let q = by-tests (length (pts n)) a b c in (q, lent (provided q (pts n)) entry))
+    go false b c s = ap (λ (x : List ℕ). (Answer.Refused Refusal.Chart, x)) (nothing s)
+    go true true c s = ap (λ (x : List ℕ). (Answer.Refused Refusal.TooLong, x)) (nothing s)
+    go true false true s = ap (λ (x : List ℕ). (Answer.Refused Refusal.Room, x)) (nothing s)
+    go true false false s = ap₂ (λ (k : ℕ) (x : List ℕ). (Answer.Count k, x)) (s .counted) (s .written)
 
--- ---- the answer and the records of `analyze`
+-- ---- the outcome of `analyze`
 module _ {C S D : Type 0} (shown : S → D) (start : C → S) (step : C → S → ℕ → Float → S) (accepted : C → Bool) where
-  abbrev Charts : C → List Float → List D → Charted → List D → Type 0
-  Charts c xs entry r exit = Analyzed (accepted c) (length xs) (records shown start step c xs) entry r exit
+  abbrev outcome : C → List Float → List D → Answer × List D
+  outcome c xs entry = analyzed (accepted c) (length xs) (records shown start step c xs) entry
 
-  abbrev judged : C → ℕ → ℕ → Charted
+  abbrev judged : C → ℕ → ℕ → Answer
   judged c n room = admittedAs (accepted c) n room
 
-  pub analyzed : (c : C) (xs : List Float) (entry : List D) → Charts c xs entry (judged c (length xs) (length entry)) (written shown start step c xs (countOf (judged c (length xs) (length entry))) entry)
-  analyzed c xs entry =
-      record {
-        answer = admitted-says (accepted c) (length xs) (length entry);
-        written = written-lent shown start step c xs (countOf (judged c (length xs) (length entry))) entry (within-both (accepted c) (length xs) (length entry) .1);
-      }
+  left : (c : C) (xs : List Float) (entry : List D)
+      → let k = countOf (judged c (length xs) (length entry)) in written shown start step c xs k entry ≡ lent (records shown start step c xs k) entry
+  left c xs entry = written-lent shown start step c xs (countOf (judged c (length xs) (length entry))) entry (within-both (accepted c) (length xs) (length entry) .1)
 
-  pub analyzed-is : (c : C) (xs : List Float) (entry : List D) (r : Charted) (exit : List D) → Charts c xs entry r exit
+  pub analyzed-leaves : (c : C) (xs : List Float) (entry : List D)
+      → let r = judged c (length xs) (length entry) in _≡_ {A = Answer × List D} (r, written shown start step c xs (countOf r) entry) (outcome c xs entry)
+  analyzed-leaves c xs entry = ap (λ (l : List D). (judged c (length xs) (length entry), l)) (left c xs entry)
+
+  pub analyzed-is : (c : C) (xs : List Float) (entry : List D) (r : Answer) (exit : List D) → _≡_ {A = Answer × List D} (r, exit) (outcome c xs entry)
       → (r ≡ judged c (length xs) (length entry)) × (exit ≡ written shown start step c xs (countOf (judged c (length xs) (length entry))) entry)
-  analyzed-is c xs entry r exit a = analyzed-once (accepted c) (length xs) (records shown start step c xs) entry r _ exit _ a (analyzed c xs entry)
+  analyzed-is c xs entry r exit e = (ap (λ (o : Answer × List D). o .0) e, ap (λ (o : Answer × List D). o .1) e ∙ sym (left c xs entry))

@@ -1,4 +1,4 @@
--- For any chart: where the record of a reading signals, its index stands among the indices that signal; and an array of one field has that of each record in its place. Assumes nothing.
+-- For any chart: where the record of a reading signals, its index stands among the indices that signal; and an array of one field has at each index that of the record there. Assumes nothing.
 use mathlib.Core.Path.{_≡_, refl, sym, _∙_, ap}
 use Prim.Native.Nat.{ℕ, zero, suc, _<_}
 use mathlib.Core.Bool.{Bool, true, false, cond}
@@ -48,7 +48,7 @@ mapped field (x ∷ l) zero d z h = refl
 mapped field (x ∷ l) (suc i) d z h = mapped field l i d z (le-of-suc-le-suc h)
 
 module _ {C S D : Type 0} (shown : S → D) (start : C → S) (step : C → S → ℕ → Float → S) (c : C) (xs : List Float) where
-  -- an array with that field of the first n records at its front has that of the reading at i in place i
+  -- an array with `field` of the first `n` records at its front has that of the reading at `i` there
   pub field-in : {A : Type 0} (field : D → A) (entry : List A) (n i : ℕ) (d : A) → i < n → getD (column field (records shown start step c xs n) entry) i d ≡ field (recordAt shown start step c xs i)
   field-in field entry n i d h =
       let l = records shown start step c xs n in

@@ -1,4 +1,4 @@
--- Laws of a chart's run: how many records and indices there are, and that what a loop leaves, one place after another, is what the contracts call `lent`. Assumes nothing.
+-- Laws of a chart's run: how many records and indices there are, and that what a loop leaves, one result after another, is what the contracts call `lent`. Assumes nothing.
 use mathlib.Core.Path.{_≡_, refl, sym, _∙_, ap}
 use Prim.Native.Nat.{ℕ, zero, suc, _≤_, _<_, _+_}
 use mathlib.Core.Bool.{Bool, true, false, cond}
@@ -28,7 +28,7 @@ lent-more results entry v fallback k e h =
 
 module _ {C S D : Type 0} (shown : S → D) (start : C → S) (step : C → S → ℕ → Float → S) (c : C) (xs : List Float) where
   -- ---- records
-  -- the lent list after n turns of the loop that fills it
+  -- the lent list `entry` after `n` turns of the loop that fills it
   abbrev pub written : ℕ → List D → List D
   written zero entry = entry
   written (suc n) entry = set (written n entry) n (recordAt shown start step c xs n)
@@ -47,7 +47,7 @@ module _ {C S D : Type 0} (shown : S → D) (start : C → S) (step : C → S �
       ap (λ (l : List D). set l n (recordAt shown start step c xs n)) (written-lent n entry (omega arith))
       ∙ lent-more (records shown start step c xs n) entry (recordAt shown start step c xs n) (shown (start c)) n (length-records n) h
 
-  -- the record at i among the first n, at the front of a lent list
+  -- the record at `i` among the first `n`, at the front of a lent list
   pub record-in : (n i : ℕ) (rest : List D) (fallback : D) → i < n → getD (records shown start step c xs n ++ rest) i fallback ≡ recordAt shown start step c xs i
   record-in zero i rest fallback h = absurd (not-suc-le-zero h)
   record-in (suc n) i rest fallback h =

@@ -1,41 +1,28 @@
--- The answers of the charts, in the paper's numbers and values, and the order of a chart's refusals. Definitions only.
+-- The order of a chart's refusals, and the answers of its calls. Definitions only.
 use Prim.Native.Nat.{ℕ}
-use mathlib.Core.Bool.{Bool, not, cond}
+use mathlib.Core.Bool.{Bool, not}
 use mathlib.Core.List.{List, [], _∷_}
 use lib.Dec.{ltb}
-use Rattle.refusals.specs.Stated.{stated}
-use Rattle.refusals.specs.Said.{Said, refused, answered, tried}
+use Rattle.refusals.specs.Limits.{maxReadings}
+use Rattle.refusals.specs.Tried.{counted}
+use Rattle.refusals.specs.declared.Refusal.{Refusal}
 use Rattle.refusals.specs.declared.Refusal.the-variants as Refusal
-use Rattle.charts.specs.declared.Charted.{Charted}
-use Rattle.charts.specs.declared.Charted.the-variants as Charted
-use Rattle.charts.specs.declared.Signalled.{Signalled}
-use Rattle.charts.specs.declared.Signalled.the-variants as Signalled
+use Rattle.refusals.specs.declared.Answer.{Answer}
+use Rattle.refusals.specs.declared.Answer.the-variants as Answer
 
--- what `analyze` says: the number of records, or the refusal's number
-abbrev pub charted : Charted → Said
-charted (Charted.Records n) = answered (n ∷ [])
-charted (Charted.Refused r) = refused (stated r)
+-- 11 the settings are not `accepted`; 6 `n` readings are more than the limit; 7 `room` is less than `n`
+abbrev pub chartTests : Bool → ℕ → ℕ → List (Bool × Refusal)
+chartTests accepted n room = (not accepted, Refusal.Chart) ∷ (ltb maxReadings n, Refusal.TooLong) ∷ (ltb room n, Refusal.Room) ∷ []
 
--- what `signal_points` says: the number of indices, or the refusal's number
-abbrev pub signalled : Signalled → Said
-signalled (Signalled.Points n) = answered (n ∷ [])
-signalled (Signalled.Refused r) = refused (stated r)
+-- the first of them, or `count`
+unfoldable pub chartAnswer : Bool → ℕ → ℕ → ℕ → Answer
+chartAnswer accepted n room count = counted (chartTests accepted n room) count
 
--- a chart's refusals, for n readings and room for so many results: 11 the settings, 6 too long, 7 the room
-unfoldable pub chartAnswer : Bool → ℕ → ℕ → List ℕ → Said
-chartAnswer accepted n room result =
-    tried ((not accepted, Refusal.Chart) ∷ (ltb 4096 n, Refusal.TooLong) ∷ (ltb room n, Refusal.Room) ∷ []) (answered result)
+-- what `analyze` answers: a record for each of `n` readings
+abbrev pub admittedAs : Bool → ℕ → ℕ → Answer
+admittedAs accepted n room = chartAnswer accepted n room n
 
--- the same as an answer of `analyze`, and the number of records that an answer stands for
-unfoldable pub admittedAs : Bool → ℕ → ℕ → Charted
-admittedAs accepted n room =
-    cond accepted (cond (ltb 4096 n) (Charted.Refused Refusal.TooLong) (cond (ltb room n) (Charted.Refused Refusal.Room) (Charted.Records n))) (Charted.Refused Refusal.Chart)
-
-abbrev pub countOf : Charted → ℕ
-countOf (Charted.Records n) = n
-countOf (Charted.Refused r) = 0
-
--- the answer of `signal_points` that goes with it
-abbrev pub signalledAs : Charted → ℕ → Signalled
-signalledAs (Charted.Records n) points = Signalled.Points points
-signalledAs (Charted.Refused r) points = Signalled.Refused r
+-- the same answer with the count `count`
+abbrev pub recounted : Answer → ℕ → Answer
+recounted (Answer.Count n) count = Answer.Count count
+recounted (Answer.Refused r) count = Answer.Refused r

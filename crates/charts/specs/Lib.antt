@@ -1,4 +1,5 @@
-pub mod Answers
-pub mod Contracts
 pub mod Runs
 pub mod Among
+pub mod Answers
+pub mod Outcomes
+pub mod Notes

@@ -2,7 +2,7 @@
 // refusals, and what is proved once of every chart.
 //
 // No function asks anything of its caller. A chart's refusals are 11, 6 and 7, tried in that order:
-// `specs/Answers`.
+// `specs/Answers`; what `analyze` and `signal_points` of any chart come to is `specs/Outcomes`.
 //
 // `specs/Runs` says what a run over a series is, whatever its settings, states and records are, and
 // `proofs/Walk` walks the loop that fills a lent slice of such records, for any chart whose own proof
@@ -10,8 +10,10 @@
 // slice held behind them (`proofs/Runs`), in one list or in an array for each field (`proofs/Columns`);
 // an array of a function's own may be lent to it (`proofs/ByValue`).
 ghost use mathlib.Core.Path.{_≡_};
-ghost use Rattle.charts.specs.Answers.{admittedAs, countOf, signalledAs};
-ghost use Rattle.charts.specs.Contracts.{Noted};
+ghost use Rattle.refusals.specs.Tried.{countOf};
+ghost use Rattle.charts.specs.Answers.{admittedAs, recounted};
+ghost use Rattle.charts.specs.Notes.{noted};
+use refusals::Answer;
 use refusals::MAX_READINGS;
 use refusals::Refusal;
 
@@ -21,42 +23,30 @@ pub struct Observation(pub usize);
 // The place of an observation on its chart, from 1.
 pub struct Place(pub usize);
 
-// The answer of `analyze`: how many records were written, or a refusal.
-pub enum Charted {
-    Records(usize),
-    Refused(Refusal),
-}
-
-// The answer of `signal_points`: how many indices were written, or a refusal.
-pub enum Signalled {
-    Points(usize),
-    Refused(Refusal),
-}
-
-// How many records an answer stands for.
-pub fn count(answer: Charted) -> usize
+// How many results `answer` says were written: its count, and 0 for a refusal.
+pub fn count(answer: Answer) -> usize
     ensures { λ r. ⌜ r ≡ countOf answer ⌝ }
 {
     match answer {
-        Charted::Records(n) => n,
-        Charted::Refused(_) => 0,
+        Answer::Count(n) => n,
+        Answer::Refused(_) => 0,
     }
 }
 
-// The answer of `signal_points` that goes with an answer of `analyze`, for so many indices.
-pub fn marked(answer: Charted, points: usize) -> Signalled
-    ensures { λ r. ⌜ r ≡ signalledAs answer points ⌝ }
+// `answer` with `points` in place of its count.
+pub fn marked(answer: Answer, points: usize) -> Answer
+    ensures { λ r. ⌜ r ≡ recounted answer points ⌝ }
 {
     match answer {
-        Charted::Records(_) => Signalled::Points(points),
-        Charted::Refused(refusal) => Signalled::Refused(refusal),
+        Answer::Count(_) => Answer::Count(points),
+        Answer::Refused(refusal) => Answer::Refused(refusal),
     }
 }
 
-// Writes the index at `count` where the reading signals and there is room, and says how many indices
-// stand in front then.
+// Sets `points[count]` to `index` where the reading signals, as `signal` says, and there is room. The
+// answer is how many indices stand in front then.
 pub fn note(signal: bool, index: usize, count: usize, points: &mut [usize]) -> usize
-    ensures { λ r. ⌜ Noted signal index count (now (points .entry)) r (now (points .exit)) ⌝ }
+    ensures { λ r. ⌜ (r, now (points .exit)) ≡ noted signal index count (now (points .entry)) ⌝ }
 {
     if signal {
         if count < points.len() {
@@ -67,19 +57,20 @@ pub fn note(signal: bool, index: usize, count: usize, points: &mut [usize]) -> u
     count
 }
 
-// The answer for so many readings with room for so many results, by settings that are accepted or not.
-pub fn admitted(accepted: bool, readings: usize, room: usize) -> Charted
+// What `analyze` answers for `readings` readings with room for `room` results, with settings that are
+// in range or not, as `accepted` says.
+pub fn admitted(accepted: bool, readings: usize, room: usize) -> Answer
     ensures { λ r. ⌜ r ≡ admittedAs accepted readings room ⌝ }
 {
     if accepted {
         if MAX_READINGS < readings {
-            Charted::Refused(Refusal::TooLong)
+            Answer::Refused(Refusal::TooLong)
         } else if room < readings {
-            Charted::Refused(Refusal::Room)
+            Answer::Refused(Refusal::Room)
         } else {
-            Charted::Records(readings)
+            Answer::Count(readings)
         }
     } else {
-        Charted::Refused(Refusal::Chart)
+        Answer::Refused(Refusal::Chart)
     }
 }

@@ -1,4 +1,4 @@
--- A segment is the same where the channel's sum starts at -0. No cost is -0, so that a sum of costs over the channels is the same from either zero on. Assumes nothing.
+-- A segment is the same where the channel's sum starts at -0. No cost is -0, so that a sum of costs over the channels is the same whichever zero it starts at. Assumes nothing.
 use mathlib.Core.Path.{_≡_}
 use Prim.Native.Nat.{ℕ, zero, suc, _-_, _^_, _≤_, _<_}
 use native.Mathlib.Omega.{arith}
@@ -9,13 +9,13 @@ use lib.ListN.{length}
 use lib.Ieee.{Float, fin, binary64, prec}
 use lib.Ieee.Fits.{mul-fits}
 use Rattle.floats.specs.Numbers.{_+ᶠ_, _*ᶠ_, _/ᶠ_, _≤ᶠ_, +0, ofWhole}
-use Rattle.floats.specs.MinusZero.{negativeZero}
-use Rattle.floats.proofs.MinusZero.{Plain, plain-is-other, plain-sub, plain-from-either-zero}
+use Rattle.floats.specs.Inner.MinusZero.{negativeZero}
+use Rattle.floats.proofs.MinusZero.{Plain, plain-sub, plain-from-either-zero}
 use Rattle.floats.proofs.WholeTimes.{whole-times}
 use Rattle.elementary.specs.Logarithm.{ln}
 use Rattle.elementary.proofs.LogarithmSign.{ln-plain}
 use Rattle.sums.specs.Sums.{squaresTo}
-use Rattle.sums.specs.Start.{meanFrom, EachFits}
+use Rattle.sums.specs.Inner.Start.{meanFrom, EachFits}
 use Rattle.sums.proofs.StartLaws.{squares-plain, running-from-minus-zero}
 use Rattle.costs.specs.Costs.{segmentAbout, segmentOf, l2Cost, smallestNormal, normalCost}
 
@@ -26,9 +26,6 @@ module _ (xs : List Float) (mean : Float) (a b : ℕ) where
       let s = segmentAbout xs mean a b in
       let m = s .sum /ᶠ s .length in
       plain-sub (s .length *ᶠ m *ᶠ m) (plain-sub (squaresTo xs mean a) (squares-plain xs mean b) (squares-plain xs mean a .held)) (mul-fits binary64 (s .length *ᶠ m) m)
-
-  pub l2-no-minus-zero : l2Cost (segmentAbout xs mean a b) ≡ negativeZero → ⊥
-  l2-no-minus-zero = plain-is-other l2-plain
 
   -- the first channel's cost, added to the zero that a sum starts at
   pub l2-from-either-zero : (z : Bool) → fin z 0 (pos 0) +ᶠ l2Cost (segmentAbout xs mean a b) ≡ l2Cost (segmentAbout xs mean a b)
@@ -47,9 +44,6 @@ module _ (xs : List Float) (mean : Float) (a b : ℕ) (some : a < b) where
       go : (n : ℕ) → 0 < n → (v : Float) → Plain (cond (v ≤ᶠ +0) (ofWhole n *ᶠ ln smallestNormal) (ofWhole n *ᶠ ln v))
       go zero h v = absurd (omega (arith, h))
       go (suc n) h v = chosen n v (v ≤ᶠ +0)
-
-  pub normal-no-minus-zero : normalCost (segmentAbout xs mean a b) ≡ negativeZero → ⊥
-  normal-no-minus-zero = plain-is-other normal-plain
 
   pub normal-from-either-zero : (z : Bool) → fin z 0 (pos 0) +ᶠ normalCost (segmentAbout xs mean a b) ≡ normalCost (segmentAbout xs mean a b)
   normal-from-either-zero z = plain-from-either-zero z normal-plain

@@ -1,5 +1,5 @@
 -- Laws of the costs that an area's sums give: one channel more, what fits does not wrap, and where the area holds the sums of a run they are the run's costs. Assumes nothing.
-use Prim.Native.Nat.{ℕ, zero, suc, _+_, _-_, _*_, _≤_, _<_}
+use Prim.Native.Nat.{ℕ, zero, suc, _+_, _*_, _≤_, _<_}
 use mathlib.Core.Path.{_≡_, refl, ap, ap₂, _∙_}
 use mathlib.Core.Bool.{Bool, true, false, _&&_, false≢true}
 use mathlib.Core.List.{List}
@@ -19,7 +19,7 @@ use Rattle.costs.specs.Summed.{segmentAt, areaCostTo, segmentFits, areaC
 use Rattle.costs.specs.declared.CostFunction.{CostFunction}
 use Rattle.costs.specs.declared.Segment.{Segment}
 
--- one channel more
+-- the cost of one channel more, the channel `c`, whose sums stand at `place`
 pub channel-added : (cost : CostFunction) (area : List Float) (n a b c place : ℕ) (s x : Float) (segment : Segment) → s ≡ areaCostTo cost area n a b c → place ≡ c * (2 * (n + 1))
     → segment ≡ segmentAt area n place a b → x ≡ costOf cost segment → s +ᶠ x ≡ areaCostTo cost area n a b (c + 1)
 unfolding areaCostTo
@@ -62,7 +62,7 @@ unfolding areaCostTo costTo
 costs-agree cost a b zero s h l g = refl
 costs-agree cost a b (suc c) s h l g = ap₂ _+ᶠ_ (costs-agree cost a b c s h l (le-of-lt g)) (ap (costOf cost) (held-segment a b (s .channel c g) h l))
 
--- what `cost_of` answers is then the run's cost
+-- where `area` holds the sums of `run`, the answer of `cost_of` is the run's cost
 pub cost-of-run : (cost : CostFunction) {run : List Float} {n k : ℕ} {area : List Float} (a b : ℕ) → Sums run n k area → a < b → b ≤ n → n ≤ 4096 → k ≤ 8
     → k * (2 * (n + 1)) ≤ length area → areaCost cost area n k a b ≡ costTo cost run n a b k
 unfolding areaCost segmentFits

@@ -11,12 +11,12 @@ use Rattle.costs.specs.declared.CostFunction.{CostFunction}
 use Rattle.costs.specs.declared.CostFunction.the-variants as CostFunction
 use Rattle.costs.specs.declared.Segment.{Segment}
 
--- the readings of a channel from a up to b, without b: differences of the running sums about a mean
+-- the readings of the channel `xs` from `a` up to `b`, without `b`: differences of the running sums about `mean`
 unfoldable pub segmentAbout : List Float → Float → ℕ → ℕ → Segment
 segmentAbout xs mean a b =
     record { length = ofWhole (b - a); sum = centredTo xs mean b -ᶠ centredTo xs mean a; «sum_of_squares» = squaresTo xs mean b -ᶠ squaresTo xs mean a }
 
--- about the channel's mean
+-- the readings of the channel `xs` from `a` up to `b`, about the channel's mean
 unfoldable pub segmentOf : List Float → ℕ → ℕ → Segment
 segmentOf xs a b = segmentAbout xs (meanOf xs) a b
 
@@ -34,12 +34,12 @@ normalCost s =
     let variance = l2Cost s /ᶠ s .length in
     cond (variance ≤ᶠ +0) (s .length *ᶠ ln smallestNormal) (s .length *ᶠ ln variance)
 
--- by the cost function
+-- the cost of the segment `s` by the cost function
 unfoldable pub costOf : CostFunction → Segment → Float
 costOf CostFunction.L2 s = l2Cost s
 costOf CostFunction.Normal s = normalCost s
 
--- channel costs add in channel order, from +0: those of the first channels of a run, of n readings each
+-- the costs by `cost` of the readings from `a` up to `b`, added from +0 on in channel order over the first channels of `run`, of `n` readings each; the last argument says how many channels
 unfoldable pub costTo : CostFunction → List Float → ℕ → ℕ → ℕ → ℕ → Float
 costTo cost run n a b zero = +0
 costTo cost run n a b (suc c) = costTo cost run n a b c +ᶠ costOf cost (segmentOf (channelOf run n c) a b)

@@ -6,6 +6,9 @@ use crate::Penalty;
 use elementary::ln;
 use std::num::nearest_u64_to_f64;
 
+// The penalty by the Bayesian information criterion, for `channels` channels of `n` readings: ln(n)
+// times their noise variances' sum, `noise`, if `cost` is L2, and 2 ln(n) times `channels` if it is
+// Normal.
 fn bic(cost: CostFunction, n: usize, channels: f64, noise: f64) -> f64
     ensures { λ r. ⌜ r ≡ bicPenalty cost n channels noise ⌝ }
 {
@@ -16,7 +19,9 @@ fn bic(cost: CostFunction, n: usize, channels: f64, noise: f64) -> f64
     }
 }
 
-// For so many channels of n readings, whose noise variances add up to `noise`.
+// The penalty of a change in `channels` channels of `n` readings, whose noise variances add up to
+// `noise`: a custom `penalty`'s value times `channels`, or that of the Bayesian information criterion
+// for `cost`.
 pub fn resolve_penalty(
     penalty: Penalty,
     cost: CostFunction,

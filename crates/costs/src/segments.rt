@@ -5,7 +5,7 @@ use crate::CostFunction;
 use crate::Segment;
 use elementary::ln;
 
-// The squares of the readings about the segment's mean.
+// The sum of the squares of the readings of `segment`, each less the segment's mean.
 pub fn l2_cost(segment: Segment) -> f64
     ensures { λ r. ⌜ r ≡ l2Cost segment ⌝ }
 {
@@ -13,9 +13,9 @@ pub fn l2_cost(segment: Segment) -> f64
     segment.sum_of_squares - segment.length * mean * mean
 }
 
-// The readings' number times the logarithm of their variance. A variance at or below 0 counts as the
-// smallest normal number, whose logarithm stands here as its bits.
-pub fn normal_cost(segment: Segment) -> f64
+// The number of the readings of `segment` times the logarithm of their variance. A variance at or below
+// 0 counts as the smallest normal number, whose logarithm stands here as its bits.
+fn normal_cost(segment: Segment) -> f64
     ensures { λ r. ⌜ r ≡ normalCost segment ⌝ }
 {
     let variance = l2_cost(segment) / segment.length;
@@ -26,6 +26,7 @@ pub fn normal_cost(segment: Segment) -> f64
     }
 }
 
+// The cost of `segment` by the cost function `cost`.
 pub fn segment_cost(cost: CostFunction, segment: Segment) -> f64
     ensures { λ r. ⌜ r ≡ costOf cost segment ⌝ }
 {

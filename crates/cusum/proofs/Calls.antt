@@ -10,20 +10,25 @@ use lib.ListN.{length, getD, drop, replicate, getD-replicate}
 use lib.Ieee.{Float, nan}
 use Rattle.floats.specs.Numbers.{_<ᶠ_}
 use Rattle.floats.specs.Finite.{finite}
+use Rattle.refusals.specs.Limits.{maxReadings}
+use Rattle.refusals.specs.Tried.{tried}
+use Rattle.refusals.specs.Said.{refusing, answered}
+use Rattle.refusals.proofs.TriedLaws.{no-result}
 use Rattle.refusals.specs.Stated.{stated}
-use Rattle.refusals.specs.Said.{refused, answered, tried}
 use Rattle.refusals.specs.declared.Refusal.the-variants as Refusal
-use Rattle.charts.specs.Runs.{stateAt}
+use Rattle.charts.specs.Runs.{stateAt, lent}
+use Rattle.charts.specs.Answers.{chartAnswer}
+use Rattle.charts.specs.Outcomes.{provided}
 use Rattle.charts.specs.Among.{Among}
 use Rattle.charts.proofs.Points.{among-front, signal-among}
-use Rattle.charts.specs.declared.Charted.the-variants as Charted
-use Rattle.charts.specs.declared.Signalled.the-variants as Signalled
-use Rattle.charts.proofs.Answers.{answered-accepted}
+use Rattle.refusals.specs.declared.Answer.{Answer}
+use Rattle.refusals.specs.declared.Answer.the-variants as Answer
+use Rattle.charts.proofs.Answers.{count-accepted}
 use Rattle.cusum.specs.declared.Cusum.{Cusum}
 use Rattle.cusum.specs.declared.CusumResult.{CusumResult}
 use Rattle.cusum.specs.declared.Side.{Side}
 use Rattle.cusum.specs.declared.Heard.the-variants as Heard
-use Rattle.cusum.specs.Chart.{accepted, fresh, shownOf, startState, nextState, recordAt, signalOf, signalling, Analyzed, Marked}
+use Rattle.cusum.specs.Chart.{accepted, fresh, shownOf, startState, nextState, recordAt, signalOf, signalling, analyzed, signalled}
 use Rattle.cusum.specs.RunLength.{sumOf, fed, heardFrom, heard, heardAs, runLength}
 use Rattle.cusum.specs.Promise.{FirstHeard, Lasting}
 use Rattle.cusum.proofs.Hearing.{fedOnce, heard-now, heard-later}
@@ -37,7 +42,7 @@ module _ (c : Cusum) (v : Float) (k : ℕ) where
   fed-before zero h = refl
   fed-before (suc i) h = rw (fed-before i (omega arith), getD-replicate k i v nan (omega arith))
 
-  -- the record of reading i, from 0, of k readings of the level
+  -- the record of the reading at `i`, of `k` readings of the level `v`
   pub fed-is-series : (i : ℕ) → i < k → recordAt c (replicate k v) i ≡ fed c v (suc i)
   fed-is-series i h = fed-before (suc i) h
 
@@ -50,10 +55,10 @@ heard-first : (c : Cusum) (v : Float) (side : Side) (n : ℕ) → heardAs (Heard
 unfolding runLength tried
 heard-first c v side n e = go (accepted c) (finite v) refl e
   where
-    go : (a b : Bool) → finite v ≡ b → answered (n ∷ []) ≡ cond (not a) (refused (stated Refusal.Chart)) (cond (not b) (refused (stated (Refusal.NonFinite 0 0))) (answered (heard c v side))) → HeardFirst c v side n
+    go : (a b : Bool) → finite v ≡ b → answered (n ∷ []) ≡ cond (not a) (refusing Refusal.Chart) (cond (not b) (refusing (Refusal.NonFinite 0 0)) (answered (heard c v side))) → HeardFirst c v side n
     go true true f e = record { level = rw f tt; first = heard-is-first c v side n (cc) .0 }
-    go true false f e = absurd (let z : _≡_ {A = ℕ} 0 1 = cc in omega arith)
-    go false b f e = absurd (let z : _≡_ {A = ℕ} 0 1 = cc in omega arith)
+    go true false f e = absurd (no-result (stated (Refusal.NonFinite 0 0)) (n ∷ []) e)
+    go false b f e = absurd (no-result (stated Refusal.Chart) (n ∷ []) e)
 
 -- what is heard is one number or none, so that its first, where it is above 0, says it
 one-from : (c : Cusum) (v : Float) (side : Side) (n k m : ℕ) (r : CusumResult) → getD (heardFrom c v side k m r) 0 0 ≡ n → 0 < n → heardFrom c v side k m r ≡ n ∷ []
@@ -71,7 +76,7 @@ one-from c v side n (suc k) m r e h = go (c .h <ᶠ sumOf side (fedOnce c v side
 
 pub heard-one : (c : Cusum) (v : Float) (side : Side) (n : ℕ) → getD (heard c v side) 0 0 ≡ n → 0 < n → heard c v side ≡ n ∷ []
 unfolding heard
-heard-one c v side n = one-from c v side n 4096 0 fresh
+heard-one c v side n = one-from c v side n maxReadings 0 fresh
 
 -- ---- the promise
 module _ (c : Cusum) (v : Float) (side : Side) (n : ℕ) (heard-at : heardAs (Heard.At n) ≡ runLength c v side) (xs : List Float) (p d : ℕ) (lasting : Lasting side v xs p d n) where
@@ -79,16 +84,17 @@ module _ (c : Cusum) (v : Float) (side : Side) (n : ℕ) (heard-at : heardAs (He
   pub record-signals : T (accepted c) → recordAt c xs (p + d) .signal ≡ true
   record-signals ok = let f = heard-first c v side n heard-at in lasting-signals c ok side v (f .level) n (f .first) xs p d lasting
 
-  -- where `analyze` answered with records, that of the reading at p + d signals
-  pub analyze-signals : (entry exit : List CusumResult) (k : ℕ) → Analyzed c xs entry (Charted.Records k) exit → getD exit (p + d) fresh .signal ≡ true
+  -- where `analyze` answered with records, that of the reading at `p + d` signals
+  pub analyze-signals : (entry exit : List CusumResult) (k : ℕ) → _≡_ {A = Answer × List CusumResult} (Answer.Count k, exit) (analyzed c xs entry) → getD exit (p + d) fresh .signal ≡ true
   analyze-signals entry exit k a = let f = heard-first c v side n heard-at in lasting-signals-lent c xs entry exit k a side v (f .level) n (f .first) p d lasting
 
-  -- where `signal_points` answered with so many indices, p + d is one of them
-  pub signal-points-has : (entry exit : List ℕ) (count : ℕ) → Marked c xs entry (Signalled.Points count) exit → Among exit count (p + d)
+  -- where `signal_points` answered with `count` indices, `p + d` is one of them
+  pub signal-points-has : (entry exit : List ℕ) (count : ℕ) → _≡_ {A = Answer × List ℕ} (Answer.Count count, exit) (signalled c xs entry) → Among exit count (p + d)
   signal-points-has entry exit count a =
       let points = signalling c xs (length xs) in
-      let said = answered-accepted (accepted c) (length xs) (length entry) (length points ∷ []) (count ∷ []) (a .answer) in
-      let all : count ≡ length points = cc (said .1) in
-      rw (a .written, all)
+      let answer : Answer.Count count ≡ chartAnswer (accepted c) (length xs) (length entry) (length points) = ap (λ (o : Answer × List ℕ). o .0) a in
+      let counts = count-accepted (accepted c) (length xs) (length entry) (length points) count answer in
+      let left : exit ≡ lent points entry = ap (λ (o : Answer × List ℕ). o .1) a ∙ ap (λ (r : Answer). lent (provided r points) entry) (sym answer) in
+      rw (left, counts .1)
       (among-front points (drop (length points) entry) (p + d)
-      (signal-among shownOf startState nextState c xs signalOf (length xs) (p + d) (in-series xs (p + d) (lasting .last)) (record-signals (said .0))))
+      (signal-among shownOf startState nextState c xs signalOf (length xs) (p + d) (in-series xs (p + d) (lasting .last)) (record-signals (counts .0))))

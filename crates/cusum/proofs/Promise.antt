@@ -1,7 +1,7 @@
 -- Demand 3: a fresh chart that is fed one level first has its sum above h at reading n; then in any series, the nth of the next finite readings at that level or beyond it carries a signal,
 -- whatever came before, and whatever gaps stand between. One proof serves both sides. Assumes nothing.
-use mathlib.Core.Path.{_≡_, refl, ap, _∙_}
-use Prim.Native.Nat.{ℕ, zero, suc, _+_, _≤_, _<_, suc-le-suc}
+use mathlib.Core.Path.{_≡_, refl, sym, ap, _∙_}
+use Prim.Native.Nat.{ℕ, zero, suc, _+_, _<_, suc-le-suc}
 use native.Mathlib.Nat.{add-zero, add-suc, zero-lt-suc}
 use native.Mathlib.Omega.{arith}
 use mathlib.Core.Bool.{Bool, true, false, _&&_, _||_, cond}
@@ -9,6 +9,7 @@ use mathlib.Core.List.{List, [], _∷_}
 use lib.Dec.{T}
 use lib.ListN.{length, getD, drop}
 use lib.Ieee.{Float, nan, binary64, neg, sub, lt, le}
+use lib.Ieee.Bits.{is-true}
 use lib.Ieee.Fits.{and-l, and-r}
 use lib.Ieee.Positive.{positive}
 use mathlib.Core.Logic.{inl, inr}
@@ -20,23 +21,22 @@ use Rattle.floats.proofs.Order.Sums.{sub-le}
 use Rattle.floats.proofs.Order.Quotients.{div-le}
 use Rattle.charts.specs.Runs as Runs
 use Rattle.charts.specs.declared.Observation.{Observation}
-use Rattle.charts.specs.declared.Charted.the-variants as Charted
+use Rattle.refusals.specs.Tried.{countOf}
+use Rattle.refusals.specs.declared.Answer.{Answer}
+use Rattle.refusals.specs.declared.Answer.the-variants as Answer
+use Rattle.charts.specs.Answers.{admittedAs}
 use Rattle.charts.proofs.Runs.{record-in}
-use Rattle.charts.proofs.Answers.{answered-accepted}
+use Rattle.charts.proofs.Answers.{count-accepted}
 use Rattle.cusum.specs.declared.Cusum.{Cusum}
 use Rattle.cusum.specs.declared.CusumResult.{CusumResult}
 use Rattle.cusum.specs.declared.Side.{Side}
 use Rattle.cusum.specs.declared.Side.the-variants.{Upper, Lower}
-use Rattle.cusum.specs.Chart.{accepted, score, fresh, stepOf, shownOf, startState, nextState, recordAt, records, Analyzed}
+use Rattle.cusum.specs.Chart.{accepted, score, fresh, stepOf, shownOf, startState, nextState, recordAt, records, analyzed}
 use Rattle.cusum.specs.RunLength.{sumOf, fed}
 use Rattle.cusum.specs.Promise.{FirstHeard, beyond, finites, Lasting}
 use Rattle.cusum.proofs.Sums.{next, cut-from-zero, next-le}
 
 -- ---- what an accepted chart is
-is-true : (b : Bool) → T b → b ≡ true
-is-true true t = refl
-is-true false t = absurd t
-
 record Settings (c : Cusum) : Type 0 where
   target : T (finite (c .target))
   sigma : T (positive (c .sigma))
@@ -106,7 +106,7 @@ module _ (c : Cusum) (side : Side) where
   fed-from-zero v zero = rw fresh-is-zero (le-reflexive +0 tt)
   fed-from-zero v (suc m) = step-from-zero (fed c v m) (record { 0 = m }) v (fed-from-zero v m)
 
-  -- the record before the reading at i
+  -- the record before the reading of a series at an index
   abbrev prior : List Float → ℕ → CusumResult
   prior xs i = shownOf (Runs.stateAt shownOf startState nextState c xs i)
 
@@ -131,7 +131,7 @@ module _ (c : Cusum) (side : Side) where
     both-move v F r s i j x z h X b =
         rw (moves r i v F, moves s j x X) (next-le (c .k) (sumOf side r) (sumOf side s) (turned side (score c v)) (turned side (score c x)) (settings c ok .k) z h (turned-le v x b))
 
-    -- as many readings of the level as the series has finite ones from p on
+    -- the chart that is fed `v` once for each finite reading among the `d` readings of `xs` that begin at `p`
     keeps : (v : Float) → T (finite v) → (xs : List Float) (p d : ℕ) → ((j : ℕ) → j < d → T (finite (getD xs (p + j) nan)) → T (beyond side v (getD xs (p + j) nan)))
         → T (le (sumOf side (fed c v (finites xs p d))) (sumOf side (prior xs (p + d))))
     unfolding finites fed
@@ -181,12 +181,13 @@ in-series [] i t = absurd t
 in-series (x ∷ xs) zero t = zero-lt-suc (length xs)
 in-series (x ∷ xs) (suc i) t = suc-le-suc (in-series xs i t)
 
-pub lasting-signals-lent : (c : Cusum) (xs : List Float) (entry exit : List CusumResult) (k : ℕ) → Analyzed c xs entry (Charted.Records k) exit
+pub lasting-signals-lent : (c : Cusum) (xs : List Float) (entry exit : List CusumResult) (k : ℕ) → _≡_ {A = Answer × List CusumResult} (Answer.Count k, exit) (analyzed c xs entry)
     → (side : Side) (v : Float) → T (finite v) → (n : ℕ) → FirstHeard c v side n → (p d : ℕ) → Lasting side v xs p d n → getD exit (p + d) fresh .signal ≡ true
 lasting-signals-lent c xs entry exit k a side v F n first p d l =
-    let said = answered-accepted (accepted c) (length xs) (length entry) (length xs ∷ []) (k ∷ []) (a .answer) in
-    let all : k ≡ length xs = cc (said .1) in
-    let here : p + d < k = omega (arith, all, in-series xs (p + d) (l .last)) in
+    let answer : Answer.Count k ≡ admittedAs (accepted c) (length xs) (length entry) = ap (λ (o : Answer × List CusumResult). o .0) a in
+    let counts = count-accepted (accepted c) (length xs) (length entry) (length xs) k answer in
+    let left : exit ≡ Runs.lent (records c xs k) entry = ap (λ (o : Answer × List CusumResult). o .1) a ∙ ap (λ (r : Answer). Runs.lent (records c xs (countOf r)) entry) (sym answer) in
+    let here : p + d < k = omega (arith, counts .1, in-series xs (p + d) (l .last)) in
     ap (λ (r : CusumResult). r .signal)
-    (ap (λ (t : List CusumResult). getD t (p + d) fresh) (a .written) ∙ record-in shownOf startState nextState c xs k (p + d) (drop (length (records c xs k)) entry) fresh here)
-    ∙ lasting-signals c (said .0) side v F n first xs p d l
+    (ap (λ (t : List CusumResult). getD t (p + d) fresh) left ∙ record-in shownOf startState nextState c xs k (p + d) (drop (length (records c xs k)) entry) fresh here)
+    ∙ lasting-signals c (counts .0) side v F n first xs p d l

@@ -8,6 +8,7 @@ use mathlib.Core.Logic.{inl, inr}
 use mathlib.Core.List.{[], _∷_}
 use lib.Dec.{T}
 use lib.Ieee.{Float}
+use Rattle.logic.proofs.Laws.{clash}
 use Rattle.floats.specs.Numbers.{_<ᶠ_}
 use Rattle.refusals.proofs.Apart.{refused-apart}
 use Rattle.cusum.specs.declared.Cusum.{Cusum}
@@ -19,11 +20,11 @@ use Rattle.cusum.specs.Promise.{FirstHeard}
 use Rattle.cusum.proofs.Hearing.{heard-now, heard-later}
 
 module _ (c : Cusum) (v : Float) (side : Side) where
-  -- the sum after m readings of the level is above h
+  -- whether the sum is above h after `m` readings of the level `v`
   abbrev over : ℕ → Bool
   over m = c .h <ᶠ sumOf side (fed c v m)
 
-  -- of the readings m + 1 to m + k, n is the first that is over
+  -- of the readings `m + 1` to `m + k`, `n` is the first that is over
   record Found (k m n : ℕ) : Type 0 where
     after : m < n
     within : n ≤ m + k
@@ -46,7 +47,7 @@ module _ (c : Cusum) (v : Float) (side : Side) where
   heard-found zero m n e = absurd (empty e)
     where
       empty : [] ≡ n ∷ [] → ⊥
-      empty e = let z : _≡_ {A = ℕ} 0 1 = cc in omega arith
+      empty e = clash cc
   heard-found (suc k) m n e = go (over (suc m)) refl (heard-found k (suc m) n)
     where
       go : (b : Bool) → over (suc m) ≡ b → (heardFrom c v side k (suc m) (fed c v (suc m)) ≡ n ∷ [] → Found k (suc m) n) → Found (suc k) m n
@@ -86,7 +87,7 @@ module _ (c : Cusum) (v : Float) (side : Side) where
   none-heard (suc k) m e j g h = go (over (suc m)) refl (none-heard k (suc m))
     where
       full : suc m ∷ [] ≡ [] → ⊥
-      full e = let z : _≡_ {A = ℕ} 0 1 = cc in omega arith
+      full e = clash cc
 
       go : (b : Bool) → over (suc m) ≡ b → (heardFrom c v side k (suc m) (fed c v (suc m)) ≡ [] → (i : ℕ) → suc m < i → i ≤ suc m + k → T (not (over i))) → T (not (over j))
       go true t ih = absurd (full (sym (heard-now c v side k m (fed c v m) t) ∙ e))

@@ -9,7 +9,7 @@ use lib.Ieee.{Float, nan, binary64, fits}
 use lib.Ieee.Fits.{div-fits}
 use Rattle.floats.specs.Numbers.{_-ᶠ_}
 use Rattle.floats.specs.Finite.{finite}
-use Rattle.floats.specs.MinusZero.{negativeZero}
+use Rattle.floats.specs.Inner.MinusZero.{negativeZero}
 use Rattle.floats.proofs.MinusZero.{Plain, plain-is-other, plain-zero, plain-add, plain-sub, plain-max}
 use Rattle.charts.specs.declared.Observation.{Observation}
 use Rattle.charts.specs.Runs.{stateAt}

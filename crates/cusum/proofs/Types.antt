@@ -1,6 +1,13 @@
--- The chart's structs as types of plain data, for the walk. Assumes nothing.
+-- The chart's structs as types of plain data and the contract of `analyze`, for the walk. Assumes nothing.
+use mathlib.Core.Path.{_≡_}
+use mathlib.Core.List.{List}
+use lib.Ieee.{Float}
 use denote.Struct.Laws as SL
+use Rattle.refusals.specs.declared.Answer.{Answer}
 use Rattle.charts.proofs.Plain.{Kind, Good, kindOf}
+use Rattle.cusum.specs.declared.Cusum.{Cusum}
+use Rattle.cusum.specs.declared.CusumResult.{CusumResult}
+use Rattle.cusum.specs.Chart.{analyzed}
 use Rattle.cusum.proofs.Cusum as C
 use Rattle.cusum.proofs.Cusum.Laws as C′
 use Rattle.cusum.proofs.CusumResult as R
@@ -25,3 +32,7 @@ good-r = record { tells = SL.tells R.the-type R′.the-laws; makes = λ 𝓤 H A
 
 pub good-s : Good KS
 good-s = record { tells = SL.tells S.the-type S′.the-laws; makes = λ 𝓤 H A W. SL.makes S.the-type S′.the-plain 𝓤 H A; lawful = SL.lawful S.the-type S′.the-laws }
+
+-- the contract of `analyze`, as the walk takes it
+abbrev pub Outcome : Cusum → List Float → List CusumResult → Answer → List CusumResult → Type 0
+Outcome c xs entry r exit = _≡_ {A = Answer × List CusumResult} (r, exit) (analyzed c xs entry)

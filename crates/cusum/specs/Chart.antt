@@ -8,9 +8,8 @@ use Rattle.floats.specs.Numbers.{_+ᶠ_, _-ᶠ_, _/ᶠ_, _<ᶠ_, _≤ᶠ_, +0, 
 use Rattle.floats.specs.Finite.{finite}
 use Rattle.floats.specs.MaxMin.{larger}
 use Rattle.charts.specs.Runs as Runs
-use Rattle.charts.specs.Contracts as Contracts
-use Rattle.charts.specs.declared.Charted.{Charted}
-use Rattle.charts.specs.declared.Signalled.{Signalled}
+use Rattle.charts.specs.Outcomes as Outcomes
+use Rattle.refusals.specs.declared.Answer.{Answer}
 use Rattle.charts.specs.declared.Observation.{Observation}
 use Rattle.cusum.specs.declared.Cusum.{Cusum}
 use Rattle.cusum.specs.declared.CusumResult.{CusumResult}
@@ -27,15 +26,15 @@ newOf target sigma = withParams target sigma (ratio 1 2) (ofWhole 5)
 unfoldable pub accepted : Cusum → Bool
 accepted c = finite (c .target) && (finite (c .sigma) && +0 <ᶠ c .sigma) && (finite (c .k) && +0 ≤ᶠ c .k) && (finite (c .h) && +0 <ᶠ c .h)
 
--- how far a reading lies from the target, in units of sigma
+-- how far the reading `x` lies from the target, in units of sigma
 abbrev pub score : Cusum → Float → Float
 score c x = (x -ᶠ c .target) /ᶠ c .sigma
 
--- the record of a chart whose sums are now these
+-- the record at `index` of a chart whose sums are now `upper` and `lower`
 abbrev pub moved : Cusum → Observation → Float → Float → CusumResult
 moved c index upper lower = record { «s_upper» = upper; «s_lower» = lower; signal = c .h <ᶠ upper || c .h <ᶠ lower; index = index }
 
--- the record of the reading x after another record: both sums move on; a gap carries them forward, without a signal
+-- the record of the reading `x` at `index`, after the record `before`: both sums move on; a gap carries them forward, without a signal
 unfoldable pub stepOf : Cusum → CusumResult → Observation → Float → CusumResult
 stepOf c before index x =
     cond (finite x)
@@ -59,7 +58,7 @@ nextState c s i x = record { shown = stepOf c (s .shown) (record { 0 = i }) x }
 abbrev pub followingState : Cusum → List Float → ℕ → State → State
 followingState = Runs.following nextState
 
--- the record of the reading at i, those of the first n, and the indices among them that signal
+-- of a chart and a series: the record of the reading at an index, those of the first readings, and the indices among them that signal
 abbrev pub recordAt : Cusum → List Float → ℕ → CusumResult
 recordAt = Runs.recordAt shownOf startState nextState
 
@@ -72,9 +71,9 @@ signalOf r = r .signal
 abbrev pub signalling : Cusum → List Float → ℕ → List ℕ
 signalling c xs n = Runs.points shownOf startState nextState c xs signalOf n
 
--- what `analyze` and `signal_points` answer and leave
-abbrev pub Analyzed : Cusum → List Float → List CusumResult → Charted → List CusumResult → Type 0
-Analyzed c xs entry r exit = Contracts.Analyzed (accepted c) (length xs) (records c xs) entry r exit
+-- what `analyze` and `signal_points` answer and leave in the lent slice
+abbrev pub analyzed : Cusum → List Float → List CusumResult → Answer × List CusumResult
+analyzed c xs entry = Outcomes.analyzed (accepted c) (length xs) (records c xs) entry
 
-abbrev pub Marked : Cusum → List Float → List ℕ → Signalled → List ℕ → Type 0
-Marked c xs entry r exit = Contracts.Marked (accepted c) (length xs) (signalling c xs (length xs)) entry r exit
+abbrev pub signalled : Cusum → List Float → List ℕ → Answer × List ℕ
+signalled c xs entry = Outcomes.signalled (accepted c) (length xs) (signalling c xs (length xs)) entry

@@ -13,23 +13,23 @@ use Rattle.cusum.specs.declared.Side.{Side}
 use Rattle.cusum.specs.declared.Side.the-variants.{Upper, Lower}
 use Rattle.cusum.specs.RunLength.{sumOf, fed}
 
--- a fresh chart that is fed only the level v first has the side's sum above h at reading n
+-- the fresh chart `c`, fed only the level `v`, first has the sum of `side` above h at reading `n`
 pub record FirstHeard (c : Cusum) (v : Float) (side : Side) (n : ℕ) : Type 0 where
   pub reading : 0 < n
   pub over : T (c .h <ᶠ sumOf side (fed c v n))
   pub before : (m : ℕ) → 0 < m → m < n → T (not (c .h <ᶠ sumOf side (fed c v m)))
 
--- x is at or above the level, and for the lower side at or below it
+-- the reading `x` is at or above the level `v`, and for the lower side at or below it
 abbrev pub beyond : Side → Float → Float → Bool
 beyond Upper v x = v ≤ᶠ x
 beyond Lower v x = x ≤ᶠ v
 
--- how many of the d readings from p on are finite
+-- how many of the `d` readings of `xs` that begin at `p` are finite
 unfoldable pub finites : List Float → ℕ → ℕ → ℕ
 finites xs p zero = 0
 finites xs p (suc d) = cond (finite (getD xs (p + d) nan)) (suc (finites xs p d)) (finites xs p d)
 
--- the reading at p + d is the nth finite one from p on, and all those up to it are at the level or beyond
+-- counted from `p`, the reading of `xs` at `p + d` is the `n`th finite one, and all the finite ones up to it are at the level `v` or beyond
 pub record Lasting (side : Side) (v : Float) (xs : List Float) (p d n : ℕ) : Type 0 where
   pub nth : suc (finites xs p d) ≡ n
   pub last : T (finite (getD xs (p + d) nan))

@@ -9,12 +9,11 @@ mod listen;
 mod step;
 
 ghost use mathlib.Core.Path.{_≡_};
-ghost use Rattle.cusum.specs.Chart.{newOf, withParams, Analyzed, Marked};
+ghost use Rattle.cusum.specs.Chart.{newOf, withParams, analyzed, signalled};
 ghost use Rattle.cusum.specs.RunLength.{heardAs, runLength};
-use charts::Charted;
 use charts::Observation;
-use charts::Signalled;
 use listen::listen;
+use refusals::Answer;
 use refusals::Refusal;
 use step::accepted;
 pub use step::following;
@@ -29,7 +28,7 @@ pub struct Cusum {
     pub h: f64,
 }
 
-// The record of one observation: both sums after it, and whether one is above h.
+// The record of the observation `index`: both sums after it, and whether one is above h.
 pub struct CusumResult {
     pub s_upper: f64,
     pub s_lower: f64,
@@ -42,13 +41,14 @@ pub struct State {
     pub shown: CusumResult,
 }
 
-// Which of the two sums is asked for.
+// Which of the two sums is asked for: that above the target or that below it.
 pub enum Side {
     Upper,
     Lower,
 }
 
-// The answer of `run_length`: the reading at which the sum was first above h, from 1.
+// The answer of `run_length`: the reading, from 1, at which the sum was first above h; that it was not;
+// or a refusal.
 pub enum Heard {
     At(usize),
     NotHeard,
@@ -56,7 +56,7 @@ pub enum Heard {
 }
 
 impl Cusum {
-    // A chart with the allowance 0.5 and the decision interval 5.
+    // A chart about `target` in units of `sigma`, with the allowance 0.5 and the decision interval 5.
     pub fn new(target: f64, sigma: f64) -> Cusum
         ensures { λ r. ⌜ r ≡ newOf target sigma ⌝ }
     {
@@ -79,10 +79,10 @@ impl Cusum {
         }
     }
 
-    // Writes a record for each reading to the front of `records`, and leaves the others; a refusal
-    // changes nothing. Cost: one step for each reading.
-    pub fn analyze(self, data: &[f64], records: &mut [CusumResult]) -> Charted
-        ensures { λ r. ⌜ Analyzed self (now («data» .entry)) (now (records .entry)) r (now (records .exit)) ⌝ }
+    // Writes a record for each reading of `data` to the front of `records`, and leaves the others; a
+    // refusal changes nothing. Cost: one step for each reading.
+    pub fn analyze(self, data: &[f64], records: &mut [CusumResult]) -> Answer
+        ensures { λ r. ⌜ (r, now (records .exit)) ≡ analyzed self (now («data» .entry)) (now (records .entry)) ⌝ }
     {
         let answer = judge(self, data.len(), records.len());
         let n = charts::count(answer);
@@ -96,11 +96,11 @@ impl Cusum {
         answer
     }
 
-    // Writes the index of each reading that signals to the front of `points`, which needs room for as
-    // many as there are readings, and leaves the others; a refusal changes nothing. Cost: one step
-    // for each reading.
-    pub fn signal_points(self, data: &[f64], points: &mut [usize]) -> Signalled
-        ensures { λ r. ⌜ Marked self (now («data» .entry)) (now (points .entry)) r (now (points .exit)) ⌝ }
+    // Writes the index of each reading of `data` that signals to the front of `points`, which needs
+    // room for as many as there are readings, and leaves the others; a refusal changes nothing. Cost:
+    // one step for each reading.
+    pub fn signal_points(self, data: &[f64], points: &mut [usize]) -> Answer
+        ensures { λ r. ⌜ (r, now (points .exit)) ≡ signalled self (now («data» .entry)) (now (points .entry)) ⌝ }
     {
         let answer = judge(self, data.len(), points.len());
         let n = charts::count(answer);
@@ -116,8 +116,8 @@ impl Cusum {
         charts::marked(answer, count)
     }
 
-    // The first reading, 1 to 4,096, at which a fresh chart that is fed only the level has the asked
-    // sum above h. Cost: one step for each reading up to that one.
+    // The first reading, 1 to 4,096, at which a fresh chart that is fed only `level` has the sum of
+    // `side` above h. Cost: one step for each reading up to that one.
     pub fn run_length(self, level: f64, side: Side) -> Heard
         ensures { λ r. ⌜ heardAs r ≡ runLength self level side ⌝ }
     {

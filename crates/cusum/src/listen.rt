@@ -1,4 +1,4 @@
-// A fresh chart that is fed one level.
+// A fresh chart that is fed one level, and the reading at which a side's sum is first above h.
 ghost use mathlib.Core.Path.{_≡_};
 ghost use Rattle.refusals.specs.Said.{answered};
 ghost use Rattle.cusum.specs.RunLength.{sumOf, heard, heardAs};
@@ -20,7 +20,7 @@ fn sum_of(side: Side, after: CusumResult) -> f64
     }
 }
 
-// The first of 4,096 readings of the level after which the asked sum is above h. Cost: one step for
+// The first of 4,096 readings of `level` after which the sum of `side` is above h. Cost: one step for
 // each reading up to that one.
 pub(crate) fn listen(chart: Cusum, level: f64, side: Side) -> Heard
     ensures { λ r. ⌜ heardAs r ≡ answered (heard chart level side) ⌝ }

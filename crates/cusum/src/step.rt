@@ -1,4 +1,4 @@
-// The settings of a chart, and one reading's step.
+// The settings of a chart, one reading's step, and the states of a run.
 ghost use mathlib.Core.Path.{_≡_};
 ghost use Prim.Native.Nat.{_<_};
 ghost use mathlib.Core.Bool.{true};
@@ -11,10 +11,10 @@ ghost use Rattle.cusum.specs.Chart.{accepted, moved, stepOf, startState,
 use crate::Cusum;
 use crate::CusumResult;
 use crate::State;
-use charts::Charted;
 use charts::Observation;
+use refusals::Answer;
 
-// Whether the settings are in range.
+// Whether the settings of `chart` are in range.
 pub(crate) fn accepted(chart: Cusum) -> bool
     ensures { λ r. ⌜ r ≡ accepted chart ⌝ }
 {
@@ -25,15 +25,15 @@ pub(crate) fn accepted(chart: Cusum) -> bool
     target & sigma & k & h
 }
 
-// What a call answers, for so many readings and room for so many results.
-pub fn judge(chart: Cusum, readings: usize, room: usize) -> Charted
+// What `analyze` answers for `readings` readings and room for `room` results.
+pub fn judge(chart: Cusum, readings: usize, room: usize) -> Answer
     ensures { λ r. ⌜ r ≡ admittedAs (accepted chart) readings room ⌝ }
 {
     charts::admitted(accepted(chart), readings, room)
 }
 
-// A sum less the allowance, and 0 where that is not above it. The difference is no negative zero, as k
-// is above 0, so that this is the larger of the two, and one instruction.
+// `sum` less the allowance `k`, and 0 where that is not above 0. The difference is no negative zero, as
+// `k` is above 0, so that this is the larger of the two, and one instruction.
 fn less(sum: f64, k: f64) -> f64
     requires { ⌜ +0 <ᶠ k ≡ true ⌝ }
     ensures { λ r. ⌜ r ≡ larger (sum -ᶠ k) +0 ⌝ }
@@ -42,7 +42,8 @@ fn less(sum: f64, k: f64) -> f64
     if 0.0 < left { left } else { 0.0 }
 }
 
-// The record of a reading that lies z from the target.
+// The record of the reading `index`, which lies `z` times sigma from the target, after the record
+// `before`.
 fn moved(chart: Cusum, before: CusumResult, index: Observation, z: f64) -> CusumResult
     ensures { λ r. ⌜ r ≡ moved chart index (larger (before .«s_upper» +ᶠ z -ᶠ chart .k) +0) (larger (before .«s_lower» -ᶠ z -ᶠ chart .k) +0) ⌝ }
 {
@@ -51,8 +52,8 @@ fn moved(chart: Cusum, before: CusumResult, index: Observation, z: f64) -> Cusum
     if (0.0 < chart.k) & (0.0 < chart.h) {
         let s_upper = less(upper, chart.k);
         let s_lower = less(lower, chart.k);
-        // The second test is asked from the other side, since two of one kind are compiled to one of the
-        // larger sum, which keeps the sums waiting.
+        // The second test is asked from the other side, since two of one kind are compiled to one of
+        // the larger sum, which keeps the sums waiting.
         let signal = (chart.h < s_upper) | !(s_lower <= chart.h);
         return CusumResult {
             s_upper,
@@ -72,7 +73,8 @@ fn moved(chart: Cusum, before: CusumResult, index: Observation, z: f64) -> Cusum
     }
 }
 
-// The record of the reading x, from the sums of the record before it. A gap carries them forward.
+// The record of the reading `x` at `index`, from the sums of the record `before`. A gap carries them
+// forward.
 pub(crate) fn step(chart: Cusum, before: CusumResult, index: Observation, x: f64) -> CusumResult
     ensures { λ r. ⌜ r ≡ stepOf chart before index x ⌝ }
 {
@@ -88,7 +90,7 @@ pub(crate) fn step(chart: Cusum, before: CusumResult, index: Observation, x: f64
     }
 }
 
-// Before the first reading both sums are zero.
+// The state before the first reading: both sums are zero.
 pub fn start(chart: Cusum) -> State
     ensures { λ r. ⌜ r ≡ startState chart ⌝ }
 {
@@ -101,7 +103,7 @@ pub fn start(chart: Cusum) -> State
     State { shown }
 }
 
-// The state after the reading at i.
+// The state after the reading `data[i]`, from the `state` before it.
 pub(crate) fn next(chart: Cusum, data: &[f64], i: usize, state: State) -> State
     requires { ⌜ i < length (now «data») ⌝ }
     ensures { λ r. ⌜ r ≡ nextState chart state i (getD (now («data» .entry)) i nan) ⌝ }
@@ -111,7 +113,8 @@ pub(crate) fn next(chart: Cusum, data: &[f64], i: usize, state: State) -> State
     State { shown: after }
 }
 
-// The state after the reading at i, and the same state where there is no such reading.
+// The state after the reading `data[i]`, from the `state` before it; the same state where there is no
+// such reading.
 pub fn following(chart: Cusum, data: &[f64], i: usize, state: State) -> State
     ensures { λ r. ⌜ r ≡ followingState chart (now («data» .entry)) i state ⌝ }
 {

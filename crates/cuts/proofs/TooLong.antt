@@ -5,8 +5,7 @@ use mathlib.Core.List.{List}
 use mathlib.Core.Option.{none}
 use borrow.Author.Tests.{lt-leb}
 use lib.ListN.{length}
-use Rattle.refusals.specs.Stated.{stated}
-use Rattle.refusals.specs.Said.{refused}
+use Rattle.refusals.specs.Said.{refusing}
 use Rattle.refusals.specs.declared.Refusal.the-variants as Refusal
 use Rattle.cuts_input.specs.Form.{requestOf}
 use Rattle.cuts_output.specs.Lines.{text}
@@ -16,6 +15,6 @@ no-request : (input : List ℕ) → 8236 < length input → requestOf input ≡ 
 unfolding requestOf
 no-request input h = rw (lt-leb (length input) 8236 h, requestOf) refl
 
-pub too-long : (input : List ℕ) → 8236 < length input → output input ≡ text (refused (stated Refusal.Form))
+pub too-long : (input : List ℕ) → 8236 < length input → output input ≡ text (refusing Refusal.Form)
 unfolding output requestSaid
 too-long input h = ap (λ q. text (requestSaid q)) (no-request input h)

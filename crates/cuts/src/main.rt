@@ -1,18 +1,18 @@
 // The program `cuts`: tagged fields on standard input, the cuts or a refusal on standard output.
 //
-// All that it answers is `cuts_answer::answer`. It reads one byte more than an input may have, so that a
-// longer one shows. A read that fails is never taken for the end of the input: the answer is then
+// All that it answers is `cuts_answer::answer`. It reads one byte more than an input may have, so that
+// a longer one shows. A read that fails is never taken for the end of the input: the answer is then
 // refusal 10, as for an input that is too long (`proofs/TooLong`). What could not be read or written is
 // said on standard error.
 ghost use mathlib.Core.Path.{_≡_};
 ghost use Rattle.io.specs.Counts.{Counts};
-ghost use Rattle.cuts.specs.Input.{takenAs};
+ghost use Rattle.cuts.specs.Inner.Input.{takenAs};
 use libc::STDERR_FILENO;
 use libc::STDIN_FILENO;
 use libc::STDOUT_FILENO;
 
 // One more than the bytes that an input may have.
-const ROOM: usize = 8237;
+const ROOM: usize = cuts_input::MOST_BYTES + 1;
 
 // How many bytes are taken for the input, where `count` were read into room for `room` and the last
 // read answered `got` and gave none: all of them, which is too many, where it failed.

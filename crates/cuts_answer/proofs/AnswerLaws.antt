@@ -1,79 +1,73 @@
 -- Laws of the answer: what the search says is what is written. Assumes nothing.
-use Prim.Native.Nat.{ℕ, _+_, _-_, _*_, _/_, _≤_}
+use Prim.Native.Nat.{ℕ, _+_, _-_, _*_, _≤_}
 use mathlib.Core.Path.{_≡_, refl, sym, ap, ap₂, subst, _∙_}
 use mathlib.Core.Bool.{Bool, true, false}
 use mathlib.Core.List.{List, [], _∷_, _++_}
 use mathlib.Core.Option.{Option, none, some}
 use native.Mathlib.Omega.{arith}
-use borrow.Author.Tests.{le-ltb}
+use borrow.Author.Tests.{le-ltb, le-leb}
 use lib.Dec.{ltb}
 use lib.ListN.{length, take, drop, replicate, length-append, length-replicate, replicate-append-replicate}
 use lib.Seq.{take-at, drop-at, sets-eq, length-take-le}
 use lib.Ieee.{Float}
-use Rattle.refusals.specs.Stated.{Stated}
-use Rattle.refusals.specs.Said.{Said, refused, answered, tried}
+use Rattle.refusals.specs.Tried.{tried, passed}
+use Rattle.refusals.specs.Said.{Said, refusing, answered}
+use Rattle.refusals.specs.declared.Answer.{Answer}
+use Rattle.refusals.specs.declared.Answer.the-variants as Answer
 use Rattle.refusals.specs.declared.Refusal.{Refusal}
 use Rattle.readings.specs.Shape.{shapeTests, firstLength}
 use Rattle.readings.specs.declared.Shaped.the-variants as Shaped
 use Rattle.costs.specs.declared.CostFunction.{CostFunction}
 use Rattle.costs.specs.declared.Penalty.{Penalty}
-use Rattle.search_answer.specs.Tests.{badPenalty, shortRoom, roomTests, searchTests, passed}
+use Rattle.search_answer.specs.Tests.{badPenalty, shortRoom, roomTests, searchTests}
 use Rattle.search_answer.proofs.AdmissionLaws.{shapely, passed-channels}
 use Rattle.readings.specs.Shape.{shapedAs}
-use Rattle.search_answer.specs.declared.Searched.{Searched}
-use Rattle.search_answer.specs.declared.Searched.the-variants as Searched
-use Rattle.search_answer.specs.Left.{foundSaid, cutsLeft, Left, Detected}
+use Rattle.search_rules.specs.Limits.{leastMinimum, slotFloats}
+use Rattle.search_rules.specs.Room.{cutsFor, floatsFor, indicesFor, roomFits}
+use Rattle.search_answer.specs.Outcome.{Areas, foundOutcome, outcomeBy}
+use Rattle.search_answer.specs.Outcome as Search
 use Rattle.pelt.specs.declared.Pelt.{Pelt}
-use Rattle.pelt.specs.Detected as Pelt
-use Rattle.pelt.specs.Detected.{withMinSegmentLen}
-use Rattle.cuts_answer.specs.Answer.{strictTests, strictCuts, cutsSaid, requestSaid, output, Answered}
+use Rattle.pelt.specs.Detected.{withMinSegmentLen, detected}
+use Rattle.cuts_answer.specs.Answer.{programSlots, outputBytes, strictTests, strictCuts, cutsSaid, requestSaid, output, printed}
 use Rattle.cuts_input.specs.Form.{Request, requestOf}
 use Rattle.cuts_output.specs.Lines.{text}
 use Rattle.cuts_output.specs.Written.{Front}
-use Rattle.cuts_answer.specs.Held.{asked, saidBy, HasCuts}
+use Rattle.cuts_answer.specs.Inner.Held.{asked, saidBy, HasCuts}
 use Rattle.cuts_answer.specs.declared.Printed.{Printed}
 
--- ---- the cuts in the front of the area are those that are found
-said-cuts : (ts : List (Bool × Refusal)) (found : Option (List ℕ)) (cuts : List ℕ) {cuts′ : List ℕ} {count : ℕ} → answered (count ∷ []) ≡ tried ts (foundSaid found) → cuts′ ≡ cutsLeft (passed ts) found cuts → (count ≤ length cuts′) × (answered (take count cuts′) ≡ tried ts (cutsSaid found))
-unfolding tried passed foundSaid cutsSaid cutsLeft
-said-cuts [] none cuts e f = absurd (let z : _≡_ {A = ℕ} 0 1 = cc in omega arith)
-said-cuts [] (some found) cuts {cuts′} {count} e f =
-    let long : length found ≡ count = cc in
-    (rw (f, length-append found (drop (length found) cuts)) (omega (arith, long)), ap answered (rw f (take-at found (drop (length found) cuts) count long)))
-said-cuts ((true, r) ∷ ts) found cuts e f = absurd (let z : _≡_ {A = ℕ} 0 1 = cc in omega arith)
-said-cuts ((false, r) ∷ ts) found cuts e f = said-cuts ts found cuts e f
+-- ---- the cuts in the front of the area are those that are found, and a refusal is the same
+outcome-said : (ts : List (Bool × Refusal)) (found : Option (List ℕ)) (before : Areas) → let o = outcomeBy ts found before in HasCuts (o .0) (o .1 .cuts) × (saidBy (o .0) (o .1 .cuts) ≡ tried refusing ts (cutsSaid found))
+unfolding outcomeBy foundOutcome tried cutsSaid
+outcome-said [] none before = (tt, refl)
+outcome-said [] (some cuts) before =
+    let rest = drop (length cuts) (before .cuts) in
+    (rw (length-append cuts rest) (omega arith), ap answered (take-at cuts rest (length cuts) refl))
+outcome-said ((true, r) ∷ ts) found before = (tt, refl)
+outcome-said ((false, r) ∷ ts) found before = outcome-said ts found before
 
--- and a refusal is the same
-said-refused : (ts : List (Bool × Refusal)) (found : Option (List ℕ)) {s : Stated} → refused s ≡ tried ts (foundSaid found) → refused s ≡ tried ts (cutsSaid found)
-unfolding tried foundSaid cutsSaid
-said-refused [] none e = e
-said-refused [] (some found) e = absurd (let z : _≡_ {A = ℕ} 0 1 = cc in omega arith)
-said-refused ((true, r) ∷ ts) found e = e
-said-refused ((false, r) ∷ ts) found e = said-refused ts found e
-
-pub left-said : {ts : List (Bool × Refusal)} {found : Option (List ℕ)} {cuts cuts′ : List ℕ} {floats floats′ : List Float} {indices indices′ : List ℕ} {pool pool′ : List Float} (r : Searched) → Left ts found cuts cuts′ floats floats′ indices indices′ pool pool′ r → HasCuts r cuts′ × (saidBy r cuts′ ≡ tried ts (cutsSaid found))
-left-said {ts} {found} {cuts} (Searched.Cuts count) l = said-cuts ts found cuts (l .answer) (l .cuts-left)
-left-said {ts} {found} (Searched.Refused r) l = (tt, said-refused ts found (l .answer))
+pub left-said : (ts : List (Bool × Refusal)) (found : Option (List ℕ)) (before after : Areas) (r : Answer) → _≡_ {A = Answer × Areas} (r, after) (outcomeBy ts found before)
+    → HasCuts r (after .cuts) × (saidBy r (after .cuts) ≡ tried refusing ts (cutsSaid found))
+left-said ts found before after r e = subst (λ (o : Answer × Areas). HasCuts (o .0) (o .1 .cuts) × (saidBy (o .0) (o .1 .cuts) ≡ tried refusing ts (cutsSaid found))) (sym e) (outcome-said ts found before)
 
 -- ---- the room is enough
-pub has-cuts : {r : Searched} {count : ℕ} (cuts : List ℕ) → r ≡ Searched.Cuts count → HasCuts r cuts → count ≤ length cuts
-has-cuts cuts e h = subst (λ (x : Searched). HasCuts x cuts) e h
+pub has-cuts : {r : Answer} {count : ℕ} (cuts : List ℕ) → r ≡ Answer.Count count → HasCuts r cuts → count ≤ length cuts
+has-cuts cuts e h = subst (λ (x : Answer). HasCuts x cuts) e h
 
-pub cuts-room : (count : ℕ) (cuts : List ℕ) {size : ℕ} → count ≤ length cuts → length cuts ≤ 515 → 10841 ≤ size → 26 + 21 * length (take count cuts) ≤ size
+pub cuts-room : (count : ℕ) (cuts : List ℕ) {size : ℕ} → count ≤ length cuts → length cuts ≤ 515 → outputBytes ≤ size → 26 + 21 * length (take count cuts) ≤ size
 cuts-room count cuts h l m = omega (arith, length-take-le count cuts h, h, l, m)
 
-roomy : (n k cuts floats indices : ℕ) → n / 2 ≤ cuts → (2 * k + 2) * (n + 1) ≤ floats → 3 * (n + 1) ≤ indices → shortRoom n k cuts floats indices ≡ false
-unfolding shortRoom
-roomy n k cuts floats indices a b c = rw (le-ltb cuts (n / 2) a, le-ltb floats ((2 * k + 2) * (n + 1)) b, le-ltb indices (3 * (n + 1)) c) refl
+roomy : (n k cuts floats indices : ℕ) → cutsFor n ≤ cuts → floatsFor n k ≤ floats → indicesFor n ≤ indices → shortRoom n k cuts floats indices ≡ false
+unfolding shortRoom roomFits
+roomy n k cuts floats indices a b c = rw (le-ltb cuts (cutsFor n) a, le-leb (floatsFor n k) floats b, le-leb (indicesFor n) indices c) refl
 
 -- tests that come after others matter only once those pass
-tried-after : (ts us vs : List (Bool × Refusal)) (s : Said) → (passed ts ≡ true → tried us s ≡ tried vs s) → tried (ts ++ us) s ≡ tried (ts ++ vs) s
+tried-after : (ts us vs : List (Bool × Refusal)) (s : Said) → (passed ts ≡ true → tried refusing us s ≡ tried refusing vs s) → tried refusing (ts ++ us) s ≡ tried refusing (ts ++ vs) s
 unfolding tried passed
 tried-after [] us vs s f = f refl
 tried-after ((true, r) ∷ ts) us vs s f = refl
 tried-after ((false, r) ∷ ts) us vs s f = tried-after ts us vs s f
 
-same-room : (strict : Bool) (run : List Float) (n k a b c d e f : ℕ) (s : Said) → shortRoom n k a b c ≡ false → shortRoom n k d e f ≡ false → tried (roomTests strict run n k a b c) s ≡ tried (roomTests strict run n k d e f) s
+same-room : (strict : Bool) (run : List Float) (n k a b c d e f : ℕ) (s : Said) → shortRoom n k a b c ≡ false → shortRoom n k d e f ≡ false → tried refusing (roomTests strict run n k a b c) s ≡ tried refusing (roomTests strict run n k d e f) s
 unfolding roomTests tried
 same-room strict run n k a b c d e f s p q = rw (p, q) refl
 
@@ -81,15 +75,15 @@ first-few : (lengths : List ℕ) → firstLength lengths ≤ length lengths * fi
 first-few [] = omega arith
 first-few (l ∷ ls) = omega arith
 
-room-product : (n k p : ℕ) → k * n ≡ p → p ≤ 1030 → k ≤ 8 → n ≤ 1030 → (2 * k + 2) * (n + 1) ≤ 4138
+room-product : (n k p : ℕ) → k * n ≡ p → p ≤ 1030 → k ≤ 8 → n ≤ 1030 → floatsFor n k ≤ 4138
 room-product n k p e a b c = omega (arith, e, a, b, c)
 
 same-tests : (penalty : Penalty) (m : ℕ) (run : List Float) (lengths : List ℕ) (d e f : ℕ) (s : Said) → length run ≤ 1030
     → shortRoom (firstLength lengths) (length lengths) d e f ≡ false
-    → tried (searchTests true penalty m run lengths 515 4138 3093) s ≡ tried (searchTests true penalty m run lengths d e f) s
+    → tried refusing (searchTests true penalty m run lengths 515 4138 3093) s ≡ tried refusing (searchTests true penalty m run lengths d e f) s
 unfolding searchTests shapedAs
 same-tests penalty m run lengths d e f s h q =
-    tried-after ((badPenalty penalty, _) ∷ (ltb m 2, _) ∷ []) _ _ s λ _. tried-after (shapeTests lengths (length run)) _ _ s λ p. same-room true run (firstLength lengths) (length lengths) 515 4138 3093 d e f s (enough p) q
+    tried-after ((badPenalty penalty, _) ∷ (ltb m leastMinimum, _) ∷ []) _ _ s λ _. tried-after (shapeTests lengths (length run)) _ _ s λ p. same-room true run (firstLength lengths) (length lengths) 515 4138 3093 d e f s (enough p) q
   where
     enough : passed (shapeTests lengths (length run)) ≡ true → shortRoom (firstLength lengths) (length lengths) 515 4138 3093 ≡ false
     enough p =
@@ -99,22 +93,21 @@ same-tests penalty m run lengths d e f s h q =
         let few : n ≤ 1030 = omega (arith, first-few lengths, g .fill, h) in
         roomy n k 515 4138 3093 (omega (arith, few)) (room-product n k (length run) (g .fill) h (g .few) few) (omega (arith, few))
 
-detected-said : (cost : CostFunction) (penalty : Penalty) (m : ℕ) (run : List Float) (lengths : List ℕ) {cuts cuts′ : List ℕ} {floats floats′ : List Float} {indices indices′ : List ℕ} {pool pool′ : List Float} (r : Searched)
-    → length run ≤ 1030 → length cuts ≡ 515 → length floats ≡ 4138 → length indices ≡ 3093 → length pool ≡ 8000
-    → Detected true cost penalty m run lengths cuts cuts′ floats floats′ indices indices′ pool pool′ r
-    → saidBy r cuts′ ≡ requestSaid (some (asked cost penalty m run lengths))
+detected-said : (cost : CostFunction) (penalty : Penalty) (m : ℕ) (run : List Float) (lengths : List ℕ) (before after : Areas) (r : Answer)
+    → length run ≤ 1030 → length (before .cuts) ≡ 515 → length (before .floats) ≡ 4138 → length (before .indices) ≡ 3093 → length (before .pool) ≡ slotFloats * programSlots
+    → _≡_ {A = Answer × Areas} (r, after) (Search.detected true cost penalty m run lengths before) → saidBy r (after .cuts) ≡ requestSaid (some (asked cost penalty m run lengths))
 unfolding requestSaid strictTests strictCuts
-detected-said cost penalty m run lengths r h a b c d l =
+detected-said cost penalty m run lengths before after r h a b c d l =
     let n = firstLength lengths in
     let k = length lengths in
-    left-said r (rw (a, b, c, d) at l) .1 ∙ same-tests penalty m run lengths (n / 2) ((2 * k + 2) * (n + 1)) (3 * (n + 1)) _ h (roomy n k (n / 2) ((2 * k + 2) * (n + 1)) (3 * (n + 1)) (omega arith) (omega arith) (omega arith))
+    left-said _ _ before after r (rw (a, b, c, d) at l) .1
+    ∙ same-tests penalty m run lengths (cutsFor n) (floatsFor n k) (indicesFor n) _ h (roomy n k (cutsFor n) (floatsFor n k) (indicesFor n) (omega arith) (omega arith) (omega arith))
 
-pub searched-said : {p : Pelt} {cost : CostFunction} {penalty : Penalty} {m : ℕ} (run : List Float) (lengths : List ℕ) {cuts cuts′ : List ℕ} {floats floats′ : List Float} {indices indices′ : List ℕ} {pool pool′ : List Float} {r : Searched}
-    → p ≡ withMinSegmentLen cost penalty m → length run ≤ 1030 → length cuts ≡ 515 → length floats ≡ 4138 → length indices ≡ 3093 → length pool ≡ 8000
-    → Pelt.Detected true p run lengths cuts cuts′ floats floats′ indices indices′ pool pool′ r
-    → saidBy r cuts′ ≡ requestSaid (some (asked cost penalty m run lengths))
-searched-said {p} {cost} {penalty} {m} run lengths {cuts} {cuts′} {floats} {floats′} {indices} {indices′} {pool} {pool′} {r} e h a b c d l =
-    detected-said cost penalty m run lengths r h a b c d (subst (λ (q : Pelt). Pelt.Detected true q run lengths cuts cuts′ floats floats′ indices indices′ pool pool′ r) e l)
+pub searched-said : (p : Pelt) {cost : CostFunction} {penalty : Penalty} {m : ℕ} (run : List Float) (lengths : List ℕ) (before after : Areas) (r : Answer)
+    → p ≡ withMinSegmentLen cost penalty m → length run ≤ 1030 → length (before .cuts) ≡ 515 → length (before .floats) ≡ 4138 → length (before .indices) ≡ 3093 → length (before .pool) ≡ slotFloats * programSlots
+    → _≡_ {A = Answer × Areas} (r, after) (detected true p run lengths before) → saidBy r (after .cuts) ≡ requestSaid (some (asked cost penalty m run lengths))
+searched-said p {cost} {penalty} {m} run lengths before after r e h a b c d l =
+    detected-said cost penalty m run lengths before after r h a b c d (l ∙ ap (λ (q : Pelt). detected true q run lengths before) e)
 
 pub prefix-short : (n : ℕ) (xs : List Float) {m : ℕ} → n ≤ length xs → length xs ≡ m → length (take n xs) ≤ m
 prefix-short n xs h e = omega (arith, length-take-le n xs h, h, e)
@@ -132,20 +125,16 @@ zeros-behind n m h =
     let e : m ≡ n + (m - n) = omega (arith, h) in
     ap (λ (k : ℕ). drop {A = ℕ} n (replicate k 0)) e ∙ ap (drop {A = ℕ} n) (sym (replicate-append-replicate {A = ℕ} n (m - n) 0)) ∙ drop-at {A = ℕ} (replicate n 0) (replicate (m - n) 0) n (length-replicate {A = ℕ} n 0)
 
-pub answered-by : {input bytes : List ℕ} {n : ℕ} → Front (output input) (replicate 10841 0) bytes n → Answered input (record { bytes = bytes; length = n })
-answered-by {input} {bytes} {n} p =
-    let e : n ≡ length (output input) = p .written .place ∙ (let z : 0 + length (output input) ≡ length (output input) = omega arith in z) in
-    let l : n ≤ 10841 = rw (length-replicate {A = ℕ} 10841 0) at (p .fits) in
+pub answered-by : (input : List ℕ) {bytes : List ℕ} {n : ℕ} → Front (output input) (replicate outputBytes 0) bytes n → record { bytes = bytes; length = n } ≡ printed input
+answered-by input {bytes} {n} p =
     let z : 0 + length (output input) ≡ length (output input) = omega arith in
-    record {
-      length-is = e;
-      bytes-are = p .written .area ∙ sets-eq (output input) (replicate 10841 0) 0 (omega (arith, e, l, length-replicate {A = ℕ} 10841 0)) ∙ ap (λ (k : ℕ). output input ++ drop {A = ℕ} k (replicate 10841 0)) z ∙ ap (λ (r : List ℕ). output input ++ r) (zeros-behind (length (output input)) 10841 (omega (arith, e, l)));
-    }
-
--- one output, whatever meets the contract
-pub answer-once : {input : List ℕ} {r q : Printed} → Answered input r → Answered input q → r ≡ q
-answer-once {input} {r} {q} a b = ap₂ (λ (bs : List ℕ) (n : ℕ). record { bytes = bs; length = n }) (a .bytes-are ∙ sym (b .bytes-are)) (a .length-is ∙ sym (b .length-is))
+    let e : n ≡ length (output input) = p .written .place ∙ z in
+    let l : n ≤ outputBytes = rw (length-replicate {A = ℕ} outputBytes 0) at (p .fits) in
+    ap₂ (λ (bs : List ℕ) (k : ℕ). record { bytes = bs; length = k })
+    (p .written .area ∙ sets-eq (output input) (replicate outputBytes 0) 0 (omega (arith, e, l, length-replicate {A = ℕ} outputBytes 0)) ∙ ap (λ (k : ℕ). output input ++ drop {A = ℕ} k (replicate outputBytes 0)) z
+    ∙ ap (λ (r : List ℕ). output input ++ r) (zeros-behind (length (output input)) outputBytes (omega (arith, e, l))))
+    e
 
 -- the output is a part of the bytes
-pub answer-inside : {input : List ℕ} {r : Printed} → Answered input r → r .length ≤ length (r .bytes)
-answer-inside {input} {r} a = rw (a .bytes-are, length-append (output input) (replicate (10841 - length (output input)) 0)) (omega (arith, a .length-is))
+pub answer-inside : (input : List ℕ) {r : Printed} → r ≡ printed input → r .length ≤ length (r .bytes)
+answer-inside input e = rw (e, length-append (output input) (replicate (outputBytes - length (output input)) 0)) (omega arith)

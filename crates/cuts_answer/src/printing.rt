@@ -4,30 +4,43 @@ ghost use lib.ListN.{length};
 ghost use mathlib.Core.Option.{some};
 ghost use Rattle.cuts_output.specs.Lines.{text};
 ghost use Rattle.cuts_output.specs.Written.{Front};
-ghost use Rattle.cuts_answer.specs.Answer.{requestSaid, output};
-ghost use Rattle.cuts_answer.specs.Held.{asked, saidBy, HasCuts};
+ghost use Rattle.cuts_input.specs.Form.{inputReadings};
+ghost use Rattle.cuts_answer.specs.Answer.{outputBytes, requestSaid, output};
+ghost use Rattle.cuts_answer.specs.Inner.Held.{asked, saidBy, HasCuts};
 use costs::CostFunction;
 use costs::Penalty;
-use pelt::Searched;
 use cuts_input::Request;
 use cuts_input::read_request;
 use cuts_output::print_cuts;
 use cuts_output::print_refusal;
 use pelt::Pelt;
+use refusals::Answer;
 use refusals::Refusal;
 
-// The answer of the search in lines.
-fn print_searched(answer: Searched, cuts: &[usize], out: &mut [u8]) -> usize
-    requires { ⌜ HasCuts answer (now cuts) × (length (now cuts) ≤ 515) × (10841 ≤ length (now out)) ⌝ }
+// The room that a search of as many readings as an input may hold asks: their cuts, their work floats
+// in whichever channels they stand, their work indices; and the slots that the program lends.
+const CUTS: usize = 515;
+
+const FLOATS: usize = 4138;
+
+const INDICES: usize = 3093;
+
+const SLOTS: usize = 40;
+
+// Writes `answer` to the front of `out` in lines, with the cuts that stand in the front of `cuts`, and
+// says how many bytes it wrote.
+fn print_searched(answer: Answer, cuts: &[usize], out: &mut [u8]) -> usize
+    requires { ⌜ HasCuts answer (now cuts) × (length (now cuts) ≤ 515) × (outputBytes ≤ length (now out)) ⌝ }
     ensures { λ r. ⌜ Front (text (saidBy answer (now (cuts .entry)))) (now (out .entry)) (now (out .exit)) r ⌝ }
 {
     match answer {
-        Searched::Cuts(count) => print_cuts(&cuts[..count], out),
-        Searched::Refused(refusal) => print_refusal(refusal, out),
+        Answer::Count(count) => print_cuts(&cuts[..count], out),
+        Answer::Refused(refusal) => print_refusal(refusal, out),
     }
 }
 
-// Lends the strict search room enough for every input, and 40 slots.
+// Lends the strict search of `readings` in channels of these `lengths` room enough for every input, and
+// writes its answer to the front of `out`.
 fn print_search(
     cost: CostFunction,
     penalty: Penalty,
@@ -36,13 +49,13 @@ fn print_search(
     lengths: &[usize],
     out: &mut [u8],
 ) -> usize
-    requires { ⌜ (length (now readings) ≤ 1030) × (10841 ≤ length (now out)) ⌝ }
+    requires { ⌜ (length (now readings) ≤ inputReadings) × (outputBytes ≤ length (now out)) ⌝ }
     ensures { λ r. ⌜ Front (text (requestSaid (some (asked cost penalty «min_segment_len» (now (readings .entry)) (now (lengths .entry)))))) (now (out .entry)) (now (out .exit)) r ⌝ }
 {
-    let mut cuts = [0; 515];
-    let mut floats = [0.0; 4138];
-    let mut indices = [0; 3093];
-    let mut pool = [0.0; 8000];
+    let mut cuts = [0; CUTS];
+    let mut floats = [0.0; FLOATS];
+    let mut indices = [0; INDICES];
+    let mut pool = [0.0; Pelt::SLOT_FLOATS * SLOTS];
     let search = Pelt::with_min_segment_len(cost, penalty, min_segment_len);
     let answer = search.detect_multi_strict(
         readings,
@@ -55,8 +68,9 @@ fn print_search(
     print_searched(answer, &cuts, out)
 }
 
+// Writes what the program answers to `input` to the front of `out`, and says how many bytes that is.
 pub(crate) fn print_answer(input: &[u8], out: &mut [u8]) -> usize
-    requires { ⌜ 10841 ≤ length (now out) ⌝ }
+    requires { ⌜ outputBytes ≤ length (now out) ⌝ }
     ensures { λ r. ⌜ Front (output (now (input .entry))) (now (out .entry)) (now (out .exit)) r ⌝ }
 {
     let parsed = read_request(input);

@@ -1,3 +1,3 @@
 pub mod Form
 pub mod Parsed
-pub mod Held
+pub mod Inner

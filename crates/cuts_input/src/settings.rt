@@ -1,14 +1,14 @@
 // The settings: the fields with tags 1, 2 and 3.
 ghost use Prim.Native.Nat.{_≤_};
 ghost use lib.ListN.{length};
-ghost use Rattle.cuts_input.specs.Held.{CostIn, PenaltyIn, LeastIn, SettingsIn};
+ghost use Rattle.cuts_input.specs.Inner.Held.{CostIn, PenaltyIn, LeastIn, SettingsIn};
 use crate::cursor::Cursor;
 use crate::cursor::Field;
 use crate::number::number;
 use costs::CostFunction;
 use costs::Penalty;
 
-// What a field sets, and the cursor past it.
+// What a field of the settings sets, and the cursor past it; or `Wrong`.
 pub enum CostField {
     Set(CostFunction, Cursor),
     Wrong,
@@ -34,6 +34,8 @@ pub enum Settings {
     Wrong,
 }
 
+// The cost function that the field of `input` at `cursor` sets: tag 1, one byte, 0 for L2 or 1 for
+// Normal.
 fn cost_field(input: &[u8], cursor: Cursor) -> CostField
     requires { ⌜ cursor .at ≤ length (now input) ⌝ }
     ensures { λ r. ⌜ CostIn (now (input .entry)) (cursor .at) r ⌝ }
@@ -54,6 +56,8 @@ fn cost_field(input: &[u8], cursor: Cursor) -> CostField
     CostField::Wrong
 }
 
+// The penalty that the field of `input` at `cursor` sets: tag 2, empty for BIC or 8 bytes of a custom
+// value.
 fn penalty_field(input: &[u8], cursor: Cursor) -> PenaltyField
     requires { ⌜ cursor .at ≤ length (now input) ⌝ }
     ensures { λ r. ⌜ PenaltyIn (now (input .entry)) (cursor .at) r ⌝ }
@@ -72,6 +76,7 @@ fn penalty_field(input: &[u8], cursor: Cursor) -> PenaltyField
     PenaltyField::Wrong
 }
 
+// The minimum length that the field of `input` at `cursor` sets: tag 3, two bytes.
 fn least_field(input: &[u8], cursor: Cursor) -> LeastField
     requires { ⌜ cursor .at ≤ length (now input) ⌝ }
     ensures { λ r. ⌜ LeastIn (now (input .entry)) (cursor .at) r ⌝ }
@@ -86,7 +91,8 @@ fn least_field(input: &[u8], cursor: Cursor) -> LeastField
     LeastField::Wrong
 }
 
-// The three fields at the front of the input, in their order.
+// The settings that the three fields at the front of `input` make up, in the order of their tags, and
+// the cursor past them.
 pub(crate) fn read_settings(input: &[u8]) -> Settings
     ensures { λ r. ⌜ SettingsIn (now (input .entry)) r ⌝ }
 {

@@ -7,7 +7,7 @@ use native.Mathlib.Omega.{arith}
 use native.Mathlib.Nat.{not-suc-le-zero, not-le-of-lt, pow-suc}
 use borrow.Author.Tests.{le-leb, lt-leb, lt-ltb, le-ltb, ltb-false}
 use lib.Dec.{ltb}
-use Rattle.refusals.specs.Stated.{Stated, stated, plain}
+use Rattle.refusals.specs.Stated.{Stated, stated}
 use Rattle.refusals.specs.declared.Refusal.{Refusal}
 use lib.ListN.{length, set, length-append}
 use lib.Seq.{sets, length-sets, append-snoc}
@@ -127,11 +127,6 @@ written-at {xs} {at} {next} {last} {a} {b} e p = record { place = rw (← e) (p 
 
 pub written-long : {xs : List ℕ} {at next : ℕ} {a b : List ℕ} → Written xs at a b next → length b ≡ length a
 written-long {xs} {at} {next} {a} {b} p = rw (p .area) (length-sets a at xs)
-
--- ---- a refusal without values
-pub values-none : (r : Refusal) → stated r ≡ plain (stated r .number) → spaced (stated r .values) ≡ []
-unfolding spaced
-values-none r h = ap (λ (s : Stated). spaced (s .values)) h
 
 -- ---- the two forms of an answer, piece by piece
 pub cuts-text : (cuts : List ℕ) {count : ℕ} → length cuts ≡ count → cutsWord ++ spaced (count ∷ []) ++ (newline ∷ []) ++ lines cuts ≡ text (answered cuts)

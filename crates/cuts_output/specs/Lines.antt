@@ -19,11 +19,11 @@ cutsWord = 99 ∷ 117 ∷ 116 ∷ 115 ∷ []
 abbrev pub refusedWord : List ℕ
 refusedWord = 114 ∷ 101 ∷ 102 ∷ 117 ∷ 115 ∷ 101 ∷ 100 ∷ []
 
--- a number below 10 as its digit
+-- the digit of the number `d`, which is below 10
 abbrev pub digit : ℕ → ℕ
 digit d = 48 + d
 
--- n in decimal, the highest digit first and no zero in front of others; more than n digits are never needed
+-- `n` in decimal, the highest digit first and no zero in front of others; the first argument bounds the digits, of which more than `n` are never needed
 unfoldable pub decimalBy : ℕ → ℕ → List ℕ
 decimalBy zero n = []
 decimalBy (suc k) n = elim (ltb n 10) [ true ↦ digit n ∷ [] | false ↦ decimalBy k (n / 10) ++ (digit (n % 10) ∷ []) ]

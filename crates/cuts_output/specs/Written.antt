@@ -9,12 +9,12 @@ use lib.Seq.{sets}
 use Rattle.refusals.specs.Said.{Said, refused, answered}
 use Rattle.cuts_output.specs.Lines.{text}
 
--- bytes written from a place on, and the place after them
+-- `out′` is `out` with `bytes` written at the index `at`, and `next` is the index behind them
 pub record Written (bytes : List ℕ) (at : ℕ) (out out′ : List ℕ) (next : ℕ) : Type 0 where
   pub place : next ≡ at + length bytes
   pub area : out′ ≡ sets out at bytes
 
--- bytes written to the front, which has room for them
+-- the same at the front of `out`, which has room for `bytes`
 pub record Front (bytes : List ℕ) (out out′ : List ℕ) (next : ℕ) : Type 0 where
   pub written : Written bytes 0 out out′ next
   pub fits : next ≤ length out
@@ -24,6 +24,6 @@ unfoldable pub roomOf : Said → ℕ
 roomOf (answered cuts) = 26 + 21 * length cuts
 roomOf (refused s) = 71
 
--- what is written of it to an area of this size: the text, or nothing where there is less room
+-- what is written of `said` to an area of `size` bytes: its text, or nothing where there is less room
 unfoldable pub shown : Said → ℕ → List ℕ
 shown said size = cond (leb (roomOf said) size) (text said) []

@@ -1,4 +1,5 @@
-// The text of an answer, piece by piece.
+// The text of an answer, put together from bytes, words and numbers. Each `put_..` writes to `out` at
+// the index `at` and answers the index behind what it wrote.
 ghost use Prim.Native.Nat.{_+_, _*_, _≤_, _<_};
 ghost use mathlib.Core.List.{[], _∷_};
 ghost use lib.ListN.{length};
@@ -8,7 +9,7 @@ ghost use Rattle.cuts_output.specs.Lines.{decimal, spaced, lines};
 ghost use Rattle.cuts_output.specs.Written.{Written, Front, shown};
 use refusals::Refusal;
 
-// A byte, and the place after it.
+// Writes `byte`.
 fn put_byte(byte: u8, out: &mut [u8], at: usize) -> usize
     requires { ⌜ at < length (now out) ⌝ }
     ensures { λ r. ⌜ Written (byte ∷ []) at (now (out .entry)) (now (out .exit)) r ⌝ }
@@ -17,7 +18,7 @@ fn put_byte(byte: u8, out: &mut [u8], at: usize) -> usize
     at + 1
 }
 
-// Cost: one turn for each byte.
+// Writes the bytes of `word`. Cost: one turn for each.
 fn put_word(word: &[u8], out: &mut [u8], at: usize) -> usize
     requires { ⌜ at + length (now word) ≤ length (now out) ⌝ }
     ensures { λ r. ⌜ Written (now (word .entry)) at (now (out .entry)) (now (out .exit)) r ⌝ }
@@ -30,7 +31,7 @@ fn put_word(word: &[u8], out: &mut [u8], at: usize) -> usize
     at + i
 }
 
-// A number in decimal. Cost: one call for each digit.
+// Writes `n` in decimal. Cost: one call for each digit.
 fn put_decimal(n: usize, out: &mut [u8], at: usize) -> usize
     requires { ⌜ at + length (decimal n) ≤ length (now out) ⌝ }
     ensures { λ r. ⌜ Written (decimal n) at (now (out .entry)) (now (out .exit)) r ⌝ }
@@ -42,7 +43,7 @@ fn put_decimal(n: usize, out: &mut [u8], at: usize) -> usize
     put_byte(48 + (n % 10) as u8, out, next)
 }
 
-// A number with a space in front.
+// Writes `n` with a space in front.
 fn put_spaced(n: usize, out: &mut [u8], at: usize) -> usize
     requires { ⌜ at + 21 ≤ length (now out) ⌝ }
     ensures { λ r. ⌜ Written (spaced (n ∷ [])) at (now (out .entry)) (now (out .exit)) r ⌝ }
@@ -51,7 +52,7 @@ fn put_spaced(n: usize, out: &mut [u8], at: usize) -> usize
     put_decimal(n, out, next)
 }
 
-// A number on a line.
+// Writes `n` and a line's end.
 fn put_line(n: usize, out: &mut [u8], at: usize) -> usize
     requires { ⌜ at + 21 ≤ length (now out) ⌝ }
     ensures { λ r. ⌜ Written (lines (n ∷ [])) at (now (out .entry)) (now (out .exit)) r ⌝ }
@@ -60,7 +61,7 @@ fn put_line(n: usize, out: &mut [u8], at: usize) -> usize
     put_byte(10, out, next)
 }
 
-// Each number on a line. Cost: one turn for each.
+// Writes each of `cuts` on a line. Cost: one turn for each.
 fn put_lines(cuts: &[usize], out: &mut [u8], at: usize) -> usize
     requires { ⌜ at + 21 * length (now cuts) ≤ length (now out) ⌝ }
     ensures { λ r. ⌜ Written (lines (now (cuts .entry))) at (now (out .entry)) (now (out .exit)) r × (r ≤ at + 21 * length (now (cuts .entry))) ⌝ }
@@ -74,8 +75,9 @@ fn put_lines(cuts: &[usize], out: &mut [u8], at: usize) -> usize
     next
 }
 
-// `cuts`, their number, and then they themselves; nothing where the area may be too short. The room is
-// asked by a division, since a product could wrap. Cost: one turn for each cut.
+// Writes to the front of `out` the word `cuts`, the number of `cuts`, and then they themselves, one a
+// line; nothing where `out` may be too short. The room is asked by a division, since a product could
+// wrap. The answer is how many bytes were written. Cost: one turn for each cut.
 pub fn print_cuts(cuts: &[usize], out: &mut [u8]) -> usize
     ensures { λ r. ⌜ Front (shown (answered (now (cuts .entry))) (length (now (out .entry)))) (now (out .entry)) (now (out .exit)) r ⌝ }
 {
@@ -93,21 +95,24 @@ pub fn print_cuts(cuts: &[usize], out: &mut [u8]) -> usize
     put_lines(cuts, out, first)
 }
 
-// The values of a refusal, each with a space in front.
+// Writes the values of `refusal`, each with a space in front.
 fn put_values(refusal: Refusal, out: &mut [u8], at: usize) -> usize
     requires { ⌜ at + 42 ≤ length (now out) ⌝ }
     ensures { λ r. ⌜ Written (spaced (stated refusal .values)) at (now (out .entry)) (now (out .exit)) r × (r ≤ at + 42) ⌝ }
 {
-    match refusal {
-        Refusal::NonFinite { channel, index } => {
-            let next = put_spaced(channel, out, at);
-            put_spaced(index, out, next)
-        }
-        _ => at,
+    let values = refusal.values();
+    if values.count == 0 {
+        return at;
     }
+    let next = put_spaced(values.first, out, at);
+    if values.count == 1 {
+        return next;
+    }
+    put_spaced(values.second, out, next)
 }
 
-// `refused`, the number and the values; nothing where the area may be too short.
+// Writes to the front of `out` the word `refused`, the number of `refusal` and its values; nothing
+// where `out` may be too short. The answer is how many bytes were written.
 pub fn print_refusal(refusal: Refusal, out: &mut [u8]) -> usize
     ensures { λ r. ⌜ Front (shown (refused (stated refusal)) (length (now (out .entry)))) (now (out .entry)) (now (out .exit)) r ⌝ }
 {

@@ -14,15 +14,15 @@ ghost use Rattle.noise.specs.Noise.{noise, Lent};
 ghost use Rattle.piece.specs.Piece.{summarisedAs};
 ghost use Rattle.cusum.specs.Chart as Cusums;
 ghost use Rattle.ewma.specs.Chart as Ewmas;
-ghost use Rattle.c_answers.specs.Told.{toldAs, countedAs, countedOf, pieceAs, pieceOf, runLengthOf};
-ghost use Rattle.c_search.specs.Asked.{Asked};
-ghost use Rattle.c_charts.specs.CusumColumns.{CusumArrays};
-ghost use Rattle.c_charts.specs.EwmaColumns.{EwmaArrays};
-ghost use Rattle.desk.specs.Marks.{CusumMarks, EwmaMarks};
+ghost use Rattle.c_answers.specs.Told.{toldAs, toldLeft, countedAs, countedOf, pieceAs, pieceOf, runLengthOf};
+ghost use Rattle.search_answer.specs.Outcome.{areas};
+ghost use Rattle.c_search.specs.Asked.{toldSearch};
+ghost use Rattle.c_charts.specs.CusumColumns.{cusumArrays};
+ghost use Rattle.c_charts.specs.EwmaColumns.{ewmaArrays};
 use cusum::Cusum;
 use ewma::Ewma;
 
-// The square root of x, rounded to the nearest.
+// The square root of `x`, rounded to the nearest.
 #[no_mangle]
 pub extern "C" fn overbrindle_sqrt(x: f64) -> f64
     ensures { λ r. ⌜ r ≡ sqrt x ⌝ }
@@ -30,7 +30,7 @@ pub extern "C" fn overbrindle_sqrt(x: f64) -> f64
     elementary::sqrt(x)
 }
 
-// x to the power n by right-to-left squaring.
+// `x` to the power `n` by right-to-left squaring.
 #[no_mangle]
 pub extern "C" fn overbrindle_powi(x: f64, n: u64) -> f64
     ensures { λ r. ⌜ r ≡ powi x n ⌝ }
@@ -38,7 +38,7 @@ pub extern "C" fn overbrindle_powi(x: f64, n: u64) -> f64
     elementary::powi(x, n)
 }
 
-// The natural logarithm of x, by document 01's rule.
+// The natural logarithm of `x`, by document 01's rule.
 #[no_mangle]
 pub extern "C" fn overbrindle_ln(x: f64) -> f64
     ensures { λ r. ⌜ r ≡ ln x ⌝ }
@@ -46,7 +46,9 @@ pub extern "C" fn overbrindle_ln(x: f64) -> f64
     elementary::ln(x)
 }
 
-// The cuts of a search; cost 0 L2, 1 Normal; penalty_kind 0 BIC, 1 custom.
+// The cuts of a search over `readings` in channels of these `lengths`: their number in `count`, they
+// themselves in the front of `cuts`. `cost` is 0 for L2, 1 for Normal; `penalty_kind` is 0 for BIC, 1
+// for the custom penalty `penalty`. `channel` and `index` are 0 but for refusal 8.
 #[no_mangle]
 pub extern "C" fn overbrindle_detect_multi(
     cost: u32,
@@ -63,7 +65,7 @@ pub extern "C" fn overbrindle_detect_multi(
     channel: &mut usize,
     index: &mut usize,
 ) -> u32
-    ensures { λ r. ⌜ Asked false cost «penalty_kind» penalty «min_segment_len» (now (readings .entry)) (now (lengths .entry)) (now (cuts .entry)) (now (cuts .exit)) (now (floats .entry)) (now (floats .exit)) (now (indices .entry)) (now (indices .exit)) (now (pool .entry)) (now (pool .exit)) (toldAs r (now (count .exit)) (now (channel .exit)) (now (index .exit))) ⌝ }
+    ensures { λ r. ⌜ (toldAs r (now (count .exit)) (now (channel .exit)) (now (index .exit)), areas (now (cuts .exit)) (now (floats .exit)) (now (indices .exit)) (now (pool .exit))) ≡ toldSearch false cost «penalty_kind» penalty «min_segment_len» (now (readings .entry)) (now (lengths .entry)) (areas (now (cuts .entry)) (now (floats .entry)) (now (indices .entry)) (now (pool .entry))) ⌝ }
 {
     let told = c_search::search(
         false,
@@ -84,7 +86,7 @@ pub extern "C" fn overbrindle_detect_multi(
     told.number
 }
 
-// The same, but a reading that is not finite is refused, with its channel and index.
+// The same, but a reading that is not finite is refused, with its `channel` and `index`.
 #[no_mangle]
 pub extern "C" fn overbrindle_detect_multi_strict(
     cost: u32,
@@ -101,7 +103,7 @@ pub extern "C" fn overbrindle_detect_multi_strict(
     channel: &mut usize,
     index: &mut usize,
 ) -> u32
-    ensures { λ r. ⌜ Asked true cost «penalty_kind» penalty «min_segment_len» (now (readings .entry)) (now (lengths .entry)) (now (cuts .entry)) (now (cuts .exit)) (now (floats .entry)) (now (floats .exit)) (now (indices .entry)) (now (indices .exit)) (now (pool .entry)) (now (pool .exit)) (toldAs r (now (count .exit)) (now (channel .exit)) (now (index .exit))) ⌝ }
+    ensures { λ r. ⌜ (toldAs r (now (count .exit)) (now (channel .exit)) (now (index .exit)), areas (now (cuts .exit)) (now (floats .exit)) (now (indices .exit)) (now (pool .exit))) ≡ toldSearch true cost «penalty_kind» penalty «min_segment_len» (now (readings .entry)) (now (lengths .entry)) (areas (now (cuts .entry)) (now (floats .entry)) (now (indices .entry)) (now (pool .entry))) ⌝ }
 {
     let told = c_search::search(
         true,
@@ -122,8 +124,8 @@ pub extern "C" fn overbrindle_detect_multi_strict(
     told.number
 }
 
-// How many readings the piece of a channel from `start` up to `end` has, without `end`, their mean and
-// their spread; zeros on a refusal.
+// The piece `channel[start..end]`: how many readings it has in `readings`, their mean in `mean` and
+// their spread in `spread`; zeros on a refusal.
 #[no_mangle]
 pub extern "C" fn overbrindle_piece_summary(
     channel: &[f64],
@@ -142,7 +144,8 @@ pub extern "C" fn overbrindle_piece_summary(
     told.number
 }
 
-// The records of a CUSUM chart, one array for each field, and how many there are; 0 on a refusal.
+// The records of a CUSUM chart over `data`, one array for each field, and in `count` how many there
+// are; 0 on a refusal.
 #[no_mangle]
 pub extern "C" fn overbrindle_cusum_analyze(
     target: f64,
@@ -156,7 +159,7 @@ pub extern "C" fn overbrindle_cusum_analyze(
     index: &mut [usize],
     count: &mut usize,
 ) -> u32
-    ensures { λ r. ⌜ CusumArrays (Cusums.withParams target sigma k h) (now («data» .entry)) (now («s_upper» .entry)) (now («s_upper» .exit)) (now («s_lower» .entry)) (now («s_lower» .exit)) (now (signal .entry)) (now (signal .exit)) (now (index .entry)) (now (index .exit)) (countedAs r (now (count .exit))) ⌝ }
+    ensures { λ r. ⌜ (countedAs r (now (count .exit)), now («s_upper» .exit), now («s_lower» .exit), now (signal .exit), now (index .exit)) ≡ cusumArrays (Cusums.withParams target sigma k h) (now («data» .entry)) (now («s_upper» .entry)) (now («s_lower» .entry)) (now (signal .entry)) (now (index .entry)) ⌝ }
 {
     let chart = Cusum {
         target,
@@ -169,7 +172,8 @@ pub extern "C" fn overbrindle_cusum_analyze(
     told.number
 }
 
-// The indices of the readings that signal on a CUSUM chart, and how many there are; 0 on a refusal.
+// The indices of the readings of `data` that signal on a CUSUM chart, in the front of `points`, and in
+// `count` how many there are; 0 on a refusal.
 #[no_mangle]
 pub extern "C" fn overbrindle_cusum_signal_points(
     target: f64,
@@ -180,7 +184,7 @@ pub extern "C" fn overbrindle_cusum_signal_points(
     points: &mut [usize],
     count: &mut usize,
 ) -> u32
-    ensures { λ r. ⌜ CusumMarks (Cusums.withParams target sigma k h) (now («data» .entry)) (now (points .entry)) (now (points .exit)) (countedAs r (now (count .exit))) ⌝ }
+    ensures { λ r. ⌜ (countedAs r (now (count .exit)), now (points .exit)) ≡ toldLeft (Cusums.signalled (Cusums.withParams target sigma k h) (now («data» .entry)) (now (points .entry))) ⌝ }
 {
     let chart = Cusum {
         target,
@@ -188,7 +192,7 @@ pub extern "C" fn overbrindle_cusum_signal_points(
         k,
         h,
     };
-    let told = c_answers::points(chart.signal_points(data, points));
+    let told = c_answers::answered(chart.signal_points(data, points));
     *count = told.count;
     told.number
 }
@@ -218,7 +222,8 @@ pub extern "C" fn overbrindle_cusum_run_length(
     told.number
 }
 
-// The records of an EWMA chart, one array for each field, and how many there are; 0 on a refusal.
+// The records of an EWMA chart over `data`, one array for each field, and in `count` how many there
+// are; 0 on a refusal.
 #[no_mangle]
 pub extern "C" fn overbrindle_ewma_analyze(
     target: f64,
@@ -233,7 +238,7 @@ pub extern "C" fn overbrindle_ewma_analyze(
     index: &mut [usize],
     count: &mut usize,
 ) -> u32
-    ensures { λ r. ⌜ EwmaArrays (Ewmas.withParams target sigma lambda «l_factor») (now («data» .entry)) (now (ewma .entry)) (now (ewma .exit)) (now (ucl .entry)) (now (ucl .exit)) (now (lcl .entry)) (now (lcl .exit)) (now (signal .entry)) (now (signal .exit)) (now (index .entry)) (now (index .exit)) (countedAs r (now (count .exit))) ⌝ }
+    ensures { λ r. ⌜ (countedAs r (now (count .exit)), now (ewma .exit), now (ucl .exit), now (lcl .exit), now (signal .exit), now (index .exit)) ≡ ewmaArrays (Ewmas.withParams target sigma lambda «l_factor») (now («data» .entry)) (now (ewma .entry)) (now (ucl .entry)) (now (lcl .entry)) (now (signal .entry)) (now (index .entry)) ⌝ }
 {
     let chart = Ewma {
         target,
@@ -246,7 +251,8 @@ pub extern "C" fn overbrindle_ewma_analyze(
     told.number
 }
 
-// The indices of the readings that signal on an EWMA chart, and how many there are; 0 on a refusal.
+// The indices of the readings of `data` that signal on an EWMA chart, in the front of `points`, and in
+// `count` how many there are; 0 on a refusal.
 #[no_mangle]
 pub extern "C" fn overbrindle_ewma_signal_points(
     target: f64,
@@ -257,7 +263,7 @@ pub extern "C" fn overbrindle_ewma_signal_points(
     points: &mut [usize],
     count: &mut usize,
 ) -> u32
-    ensures { λ r. ⌜ EwmaMarks (Ewmas.withParams target sigma lambda «l_factor») (now («data» .entry)) (now (points .entry)) (now (points .exit)) (countedAs r (now (count .exit))) ⌝ }
+    ensures { λ r. ⌜ (countedAs r (now (count .exit)), now (points .exit)) ≡ toldLeft (Ewmas.signalled (Ewmas.withParams target sigma lambda «l_factor») (now («data» .entry)) (now (points .entry))) ⌝ }
 {
     let chart = Ewma {
         target,
@@ -265,13 +271,14 @@ pub extern "C" fn overbrindle_ewma_signal_points(
         lambda,
         l_factor,
     };
-    let told = c_answers::points(chart.signal_points(data, points));
+    let told = c_answers::answered(chart.signal_points(data, points));
     *count = told.count;
     told.number
 }
 
-// The noise variance of a channel, worked out in the places of an area from a place on, one fewer than
-// there are readings; they are +0 afterwards. NaN where there is no room.
+// The noise variance of `channel`, worked out in the part of `area` that begins at `place` and has one
+// float fewer than `channel` has readings; that part is +0 afterwards. NaN where `area` has no room for
+// it.
 #[no_mangle]
 pub extern "C" fn overbrindle_noise_variance(channel: &[f64], area: &mut [f64], place: usize) -> f64
     ensures { λ r. ⌜ Lent (noise (now (channel .entry))) (length (now (channel .entry))) place (now (area .entry)) (now (area .exit)) r ⌝ }

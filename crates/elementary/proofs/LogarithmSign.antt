@@ -1,4 +1,4 @@
--- No logarithm is -0: the share of the power of two is none, and a sum is -0 only where both its values are. Assumes nothing.
+-- No logarithm is -0: the power of two's share of the sum is not -0, and a sum is -0 only where both its values are. Assumes nothing.
 use Prim.Native.Nat.{ℕ, zero, suc, _-_, _^_}
 use mathlib.Core.Path.{refl}
 use mathlib.Core.Bool.{true, false}

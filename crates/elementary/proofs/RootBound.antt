@@ -15,14 +15,14 @@ use Rattle.floats.specs.Numbers.{+0}
 use Rattle.floats.proofs.Order.Fractions.{leq→le}
 use Rattle.floats.proofs.Order.Patterns as floats
 use Rattle.elementary.specs.Root.{sqrt}
-use Rattle.elementary.specs.Parts.{countOf}
+use Rattle.elementary.specs.Inner.Parts.{countOf}
 use Rattle.elementary.proofs.parts.Values.{Pattern, count-high, placed-is, value, unit-fits}
 use Rattle.elementary.proofs.parts.Shifts.{sig, exp, high-scaled, high-root}
 use Rattle.elementary.proofs.parts.Patterns.{pattern-below, low-pattern}
 use Rattle.elementary.proofs.root.Digits.{square-sum}
 use Rattle.elementary.proofs.root.Scaled.{taken, same}
 use Rattle.elementary.proofs.root.Closest.{Correct, correctly-rounded}
--- what compares above another value is no NaN
+-- a value that compares above another is no NaN
 pub use Rattle.elementary.proofs.parts.Patterns.{more-is-no-nan}
 
 -- ---- whole numbers
@@ -31,7 +31,7 @@ pub use Rattle.elementary.proofs.parts.Patterns.{more-is-no-nan}
 products : (d h : ℕ) → 2 * ((d + h) * h) ≤ (d + h) * (d + h) + h * h
 products d h = omega (arith, square-sum d h, add-mul d h h)
 
--- of a significand 2 ^ 52 + t: with 1 more than half of t in the place of t, the square is at least 2 ^ 52 times it, and 2 ^ 51 more, 2 ^ 53 times
+-- of a significand 2 ^ 52 + t: with an h of at least half of t instead of t, the square is at least 2 ^ 52 times it, and with 2 ^ 51 more at least 2 ^ 53 times it
 plain : (t h : ℕ) → t ≤ 2 * h → (t + 2 ^ 52) * 2 ^ 52 ≤ (2 ^ 52 + h) * (2 ^ 52 + h)
 plain t h l = omega (arith, square-sum (2 ^ 52) h)
 
@@ -115,7 +115,7 @@ module _ (b : ℕ) (lo : 2 ^ 52 ≤ b) (hi : b < 2047 * 2 ^ 52) where
   bound-value : HasValue (units binary64 false digits place) false (digits * 2 ^ place) (2 ^ 1074)
   bound-value = value digits place (digits-in .0) (digits-in .1) (digits-in .2)
 
-  -- its square is at least the number
+  -- the bound's square is at least the number with the pattern `b`
   bound-square : countOf b * 2 ^ 1074 ≤ digits * 2 ^ place * (digits * 2 ^ place)
   bound-square =
       le-trans (le-of-eq (ap (λ (z : ℕ). z * 2 ^ 1074) (count-high b lo) ∙ high-root b lo ∙ same (sig b) (exp b) (high-scaled b lo hi)))

@@ -1,4 +1,4 @@
--- The second power of any value, NaN and the infinities among them, is its product with itself: what the noise, the gaps and the slabs square by. Assumes nothing.
+-- The second power of any value, NaN and the infinities among them, is its product with itself. Assumes nothing.
 use mathlib.Core.Path.{_≡_}
 use lib.Ieee.{Float, binary64, ofInt}
 use lib.Ieee.Fits.{mul-fits}

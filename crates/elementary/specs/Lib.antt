@@ -1,4 +1,4 @@
 pub mod Root
 pub mod Power
 pub mod Logarithm
-pub mod Parts
+pub mod Inner

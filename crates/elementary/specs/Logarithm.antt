@@ -5,24 +5,23 @@ use lib.IntN.{ℤ, pos, _+ℤ_, _-ℤ_}
 use lib.Ieee.{Float, nan, inf, fin, binary64, size, ofInt}
 use Rattle.floats.specs.Numbers.{_+ᶠ_, _-ᶠ_, _*ᶠ_, _/ᶠ_, _<ᶠ_, -∞, ofWhole, ratio, smallest}
 
--- P after j has run from n - 1 down to 0: each time it becomes P·z + 1/(2j+1)
+-- `P` after `j` has run from n - 1 down to 0, for the n that is given: each time it becomes P·z + 1/(2j+1)
 unfoldable pub series : ℕ → Float → Float → Float
 series zero z P = P
 series (suc j) z P = series j z (P *ᶠ z +ᶠ ofWhole 1 /ᶠ ofWhole (2 * j + 1))
 
--- e·0.6931471805599453 + (2·s)·P, with z = s·s and P from 1/21 on
+-- e·0.6931471805599453 + (2·s)·P, with z = s·s, and with P the sum that starts at 1/21
 unfoldable pub lnOf : ℤ → Float → Float
 lnOf e s = ofInt binary64 e *ᶠ ratio 6931471805599453 (10 ^ 16) +ᶠ ofWhole 2 *ᶠ s *ᶠ series 10 (s *ᶠ s) (ofWhole 1 /ᶠ ofWhole 21)
 
--- an M above 1.4142135623730951 is halved and e is one more; then s = (M - 1) / (M + 1)
+-- an `M` above 1.4142135623730951 is halved and `e` is one more; then s = (M - 1) / (M + 1)
 unfoldable pub lnScaled : Float → ℤ → Float
 lnScaled M e =
     let high = ratio 14142135623730951 (10 ^ 16) <ᶠ M in
     let N = cond high (M /ᶠ ofWhole 2) M in
     lnOf (cond high (e +ℤ pos 1) e) ((N -ᶠ ofWhole 1) /ᶠ (N +ᶠ ofWhole 1))
 
--- A number above zero is n of the smallest value, 2 ^ -1074. With d + 1 binary digits, n is M·2^d for an M in [1, 2), which has as few digits as n and is
--- exact, so the number is M·2^(d - 1074); a subnormal one, too.
+-- a number above zero is n of the smallest value, 2 ^ -1074; with d + 1 binary digits, n is M·2^d for an exact M in [1, 2), so the number is M·2^(d - 1074), a subnormal one too
 unfoldable pub ln : Float → Float
 ln nan = nan
 ln (inf true) = nan

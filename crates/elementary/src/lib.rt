@@ -1,9 +1,9 @@
-// Document 01's roots, powers and logarithm: `sqrt`, `powi` and `ln`.
+// The square root, whole powers and the natural logarithm of document 01: `sqrt`, `powi` and `ln`.
 //
-// Each takes every value, asks nothing of its caller, and ends with the value that one definition of
-// `specs/` gives for it, to the bit; NaN counts as one value. The square root is correctly rounded,
-// and `proofs/root/Closest` has the law that no other value of the format is as near to the root;
-// `proofs/RootBound` has a bound of it that takes no root.
+// Each takes every value, asks nothing of its caller, and returns the value that one definition of
+// `specs/` gives, to the bit; NaN counts as one value. The square root is correctly rounded:
+// `proofs/root/Closest` has the law that no other value of the format is as near to the root, and
+// `proofs/RootBound` an upper bound of it that takes no root.
 mod logarithm;
 mod parts;
 mod power;

@@ -8,7 +8,7 @@ ghost use Rattle.elementary.specs.Logarithm.{series, lnOf, lnScaled, ln}
 use crate::parts::parts_of;
 use crate::parts::placed;
 
-// The sum of z^j / (2j + 1) for j up to 10, from the last term on.
+// The sum of `z`^j / (2j + 1) for j from 0 to 10, by Horner's rule from the last term.
 fn series(z: f64) -> f64
     ensures { λ r. ⌜ r ≡ series 10 z (ofWhole 1 /ᶠ ofWhole 21) ⌝ }
 {
@@ -25,7 +25,7 @@ fn series(z: f64) -> f64
     p * z + 1.0
 }
 
-// power - 2096 as a float.
+// `power - 2096` as a float.
 fn exponent(power: u64) -> f64
     requires { ⌜ power ≤ 4096 ⌝ }
     ensures { λ r. ⌜ r ≡ ofInt binary64 (pos power -ℤ pos 2096) ⌝ }
@@ -33,7 +33,7 @@ fn exponent(power: u64) -> f64
     ((power as i32) - 2096) as f64
 }
 
-// The logarithm of M * 2^(power - 2096), from s = (M - 1) / (M + 1).
+// The logarithm of M * 2^(power - 2096), from `power` and `s`, which is (M - 1) / (M + 1).
 fn summed(power: u64, s: f64) -> f64
     requires { ⌜ power ≤ 4096 ⌝ }
     ensures { λ r. ⌜ r ≡ lnOf (pos power -ℤ pos 2096) s ⌝ }
@@ -41,7 +41,7 @@ fn summed(power: u64, s: f64) -> f64
     exponent(power) * 0.6931471805599453 + 2.0 * s * series(s * s)
 }
 
-// The logarithm of m * 2^(power - 2096), for an m from 1 up to 2.
+// The logarithm of `m` * 2^(power - 2096), for an `m` in [1, 2).
 fn scaled(m: f64, power: u64) -> f64
     requires { ⌜ power < 4096 ⌝ }
     ensures { λ r. ⌜ r ≡ lnScaled m (pos power -ℤ pos 2096) ⌝ }
@@ -53,7 +53,8 @@ fn scaled(m: f64, power: u64) -> f64
     summed(power, (m - 1.0) / (m + 1.0))
 }
 
-// The natural logarithm of x.
+// The natural logarithm of `x`: -infinity for either zero, +infinity for +infinity, and NaN for NaN and
+// negatives.
 pub fn ln(x: f64) -> f64
     ensures { λ r. ⌜ r ≡ ln x ⌝ }
 {

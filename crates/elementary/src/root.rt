@@ -3,14 +3,14 @@
 ghost use mathlib.Core.Path.{_≡_};
 ghost use Prim.Native.Nat.{_+_, _*_, _^_, _≤_, _<_};
 ghost use Rattle.elementary.specs.Root.{sqrt, nearRoot};
-ghost use Rattle.elementary.specs.Parts.{Near, Scaled, countOf};
+ghost use Rattle.elementary.specs.Inner.Parts.{Near, Scaled, countOf};
 use crate::parts::parts_of;
 use crate::parts::placed;
 
-// The root of square * 2^52 as a whole number, rounded to the nearest: a binary digit a turn, the
-// highest first, 53 turns. weight is that of the last digit found, and rest is
-// 2 * (square * 2^52 - root * root) / weight. The next digit is 1 where trial is at most rest. That is
-// asked by the sign of the difference, with no branch, which would be guessed wrong every other turn.
+// The root of `square` * 2^52 as a whole number, rounded to the nearest: a binary digit a turn, the
+// highest first, 53 turns. `weight` is that of the last digit found, and `rest` is
+// `2 * (square * 2^52 - root * root) / weight`. The next digit is 1 where `trial` is at most `rest`. The
+// sign of the difference decides that, with no branch, which would be guessed wrong every other turn.
 fn root_by_digits(square: u64) -> u64
     requires { ⌜ (2 ^ 52 ≤ square) × (square < 2 ^ 54) ⌝ }
     ensures { λ g. ⌜ Near (square * 2 ^ 52) g ⌝ }
@@ -32,8 +32,8 @@ fn root_by_digits(square: u64) -> u64
     if rest <= 2 * root { root } else { root + 1 }
 }
 
-// A guess at √x, for the x with this bit pattern: a guess at 1 / √x from the bit pattern's half, two
-// of Newton's steps, and for √x one of the next order. Nothing rests on how good it is.
+// A guess at the root of `x`, whose bit pattern is `pattern`: a guess at 1 / √x from half the pattern,
+// two of Newton's steps, and for √x one of the next order. Nothing rests on how good it is.
 fn guess(x: f64, pattern: u64) -> f64
     requires { ⌜ pattern < 2047 * 2 ^ 52 ⌝ }
 {
@@ -45,9 +45,10 @@ fn guess(x: f64, pattern: u64) -> f64
     root + root * error * (0.5 + 0.375 * error)
 }
 
-// The root of square * 2^52 as a whole number, rounded to the nearest: guess, guess + 1 or guess + 2,
-// where the distance of guess * guess to square * 2^52 says so, and otherwise by the digits. The
-// guess is upper * 2^27 + lower, and the distance is found in three steps, each within 64 bits.
+// The root of `square` * 2^52 as a whole number, rounded to the nearest: `guess`, `guess + 1` or
+// `guess + 2`, where the distance of `guess * guess` to `square` * 2^52 says so, and otherwise by the
+// digits. The guess is upper * 2^27 + lower, and the distance is found in three steps, each within 64
+// bits.
 fn settled(square: u64, guess: u64) -> u64
     requires { ⌜ (2 ^ 52 ≤ square) × (square < 2 ^ 54) ⌝ }
     ensures { λ v. ⌜ Near (square * 2 ^ 52) v ⌝ }
@@ -76,8 +77,8 @@ fn settled(square: u64, guess: u64) -> u64
     root_by_digits(square)
 }
 
-// The same from a guess at the root's value, whose bit pattern is places * 2^52 more; less 1, since a
-// guess above the root is not settled.
+// The same from a `guess` at the root as a float, whose bit pattern is `places` * 2^52 more than the
+// root. `settled` is given 1 less, since it does not settle a guess above the root.
 fn guessed(square: u64, guess: f64, places: u64) -> u64
     requires { ⌜ (2 ^ 52 ≤ square) × (square < 2 ^ 54) × (places ≤ 2044) ⌝ }
     ensures { λ v. ⌜ Near (square * 2 ^ 52) v ⌝ }
@@ -92,7 +93,8 @@ fn guessed(square: u64, guess: f64, places: u64) -> u64
     }
 }
 
-// The root of significand * 2^power, for a significand of 53 digits, from such a guess.
+// The float nearest to the root of `significand` * 2^`power`, both counted in units of 2^-1074, for a
+// `significand` of 53 digits; `guess` and `places` are those of `guessed`.
 fn rooted(significand: u64, power: u64, guess: f64, places: u64) -> f64
     requires { ⌜ Scaled significand power × (places ≤ 2044) ⌝ }
     ensures { λ v. ⌜ v ≡ nearRoot (significand * 2 ^ power) ⌝ }
@@ -102,8 +104,8 @@ fn rooted(significand: u64, power: u64, guess: f64, places: u64) -> f64
     placed(root, spare / 2)
 }
 
-// The root of the value with this bit pattern, finite and above zero, at the ends of the range, where
-// a guess at the value's own root would be subnormal on the way: the guess is at the root of the
+// The root of the value with the bit pattern `pattern`, finite and above zero, at the ends of the range,
+// where a guess at the value's own root would be subnormal on the way: the guess is at the root of the
 // significand.
 fn at_the_ends(pattern: u64) -> f64
     requires { ⌜ (0 < pattern) × (pattern < 2047 * 2 ^ 52) ⌝ }
@@ -121,7 +123,8 @@ fn at_the_ends(pattern: u64) -> f64
     )
 }
 
-// The square root of x, rounded to the nearest.
+// The square root of `x`, rounded to the nearest: `x` itself for either zero and for +infinity, and NaN
+// for NaN and negatives.
 pub fn sqrt(x: f64) -> f64
     ensures { λ v. ⌜ v ≡ sqrt x ⌝ }
 {

@@ -1,4 +1,4 @@
--- The limits stay from the place on that `start` finds: a run of states by it shows the chart's own records. Assumes nothing.
+-- At the place that `start` finds and at all later ones the limits are the same: a run of states by it shows the chart's own records. Assumes nothing.
 use mathlib.Core.Path.{_≡_, refl, sym, ap, subst, _∙_}
 use Prim.Native.Nat.{ℕ, zero, suc, _+_, _*_, _/_, _%_, _^_, _≤_, _<_}
 use native.Mathlib.Nat.{mul-le-mul, mul-pos, pow-suc}
@@ -18,15 +18,17 @@ use Rattle.floats.proofs.Order.Laws.{lt→le, not-lt→le, le-transitive}
 use Rattle.elementary.specs.Power.{powFrom, powi}
 use Rattle.charts.specs.Runs.{stateAt, recordAt, following}
 use Rattle.charts.specs.declared.Place.{Place}
-use Rattle.charts.specs.Answers.{admittedAs, countOf}
+use Rattle.refusals.specs.Tried.{countOf}
+use Rattle.refusals.specs.declared.Answer.{Answer}
+use Rattle.charts.specs.Answers.{admittedAs}
 use Rattle.charts.proofs.Answers.{few-records}
-use Rattle.charts.proofs.Loops.{analyzed}
+use Rattle.charts.proofs.Loops.{analyzed-leaves}
 use Rattle.charts.proofs.Runs.{written}
 use Rattle.ewma.specs.declared.Ewma.{Ewma}
 use Rattle.ewma.specs.declared.EwmaResult.{EwmaResult}
 use Rattle.ewma.specs.declared.State.{State}
 use Rattle.ewma.specs.declared.Settled.{Settled}
-use Rattle.ewma.specs.Chart.{accepted, halfWidth, stepOf, fresh, itself, nextRecord, Analyzed}
+use Rattle.ewma.specs.Chart.{accepted, halfWidth, stepOf, fresh, itself, nextRecord, analyzed}
 use Rattle.ewma.specs.Settled.{faint, widthAt, settledFrom, settledOf, widthFrom, stepBy, shownOf, startState, nextState, followingState}
 use Rattle.ewma.proofs.Fading.{Within, one, rounded-within, unit-product, squared, faded-power, no-less-than-one, one-less-faint}
 
@@ -97,13 +99,13 @@ never (suc k) p d h = rw (settledFrom, not-faint d h) (never k (2 * p) (d *ᶠ d
     doubled : (v : ℕ) → 2 * p * v ≡ p * (v * 2)
     doubled v = omega arith
 
--- a place is at least one whose decay is faint, so many squares after the decay of a first place
+-- `place` is at least one whose decay is faint, a number of squares after the decay of the place `first`, which is `decay`
 pub record Reached (place first : ℕ) (decay : Float) : Type 0 where
   pub squares : ℕ
   pub passed : first * 2 ^ squares ≤ place
   pub faint-there : Within faint (squared squares decay)
 
--- so is each place from the one on that is found
+-- so is the place that is found, and each later one
 reached : (k p place : ℕ) (d : Float) → Within one d → settledFrom k p d ≤ place → place < p * 2 ^ k → Reached place p d
 unfolding settledFrom
 reached zero p place d w h g = absurd (never p place h g)
@@ -123,7 +125,7 @@ reached (suc k) p place d w h g = go (d ≤ᶠ faint) refl h (λ l. reached k (2
     go false e h f = one-more (f h)
 
 -- ---- the width there
--- an even power begins with a square, and is faint from there on
+-- an even power begins with a square, and is faint where that square's power is
 even-power-faint : (k n place : ℕ) (b : Float) → n ≡ 2 * place → n ≤ k → 0 < place → Within one (b *ᶠ b) → Reached place 1 (b *ᶠ b) → Within faint (powFrom k n b one)
 unfolding powFrom
 even-power-faint zero n place b e h l w r = absurd (nothing n place e h l)
@@ -139,7 +141,7 @@ even-power-faint (suc k) (suc n) place b e h l w r =
     let bit : suc n % 2 ≡ 0 = omega (arith, e) in
     rw (half, bit) (faded-power (r .squares) k place (b *ᶠ b) one (omega (arith, e, h, l)) (omega (arith, r .passed)) w (unfold le in tt) (r .faint-there))
 
--- the width that is kept from the place on is the place's own
+-- the width that is kept once the limits have settled is the place's own
 pub width-settles : (c : Ewma) (place : Place) → 0 < place .0 → place .0 < 8192 → widthFrom c (settledOf c) place ≡ halfWidth c place
 unfolding widthFrom settledOf halfWidth widthAt powi ofInt
 width-settles c place low high = by-place (leb (settledFrom 13 1 (kept *ᶠ kept)) (place .0)) refl
@@ -195,7 +197,7 @@ module _ (c : Ewma) (xs : List Float) where
       ∙ ap (λ (s : State). set (written itself fresh nextRecord c xs n entry) n (s .shown)) (state-settles (suc n) h)
 
 -- what `analyze` leaves is the chart's own
-pub settled-analyzed : (c : Ewma) (xs : List Float) (entry : List EwmaResult) → let r = admittedAs (accepted c) (length xs) (length entry) in Analyzed c xs entry r (written shownOf startState nextState c xs (countOf r) entry)
+pub settled-analyzed : (c : Ewma) (xs : List Float) (entry : List EwmaResult) → let r = admittedAs (accepted c) (length xs) (length entry) in _≡_ {A = Answer × List EwmaResult} (r, written shownOf startState nextState c xs (countOf r) entry) (analyzed c xs entry)
 settled-analyzed c xs entry =
     let r = admittedAs (accepted c) (length xs) (length entry) in
-    rw (written-settles c xs (countOf r) entry (few-records (accepted c) (length xs) (length entry))) (analyzed itself fresh nextRecord accepted c xs entry)
+    rw (written-settles c xs (countOf r) entry (few-records (accepted c) (length xs) (length entry))) (analyzed-leaves itself fresh nextRecord accepted c xs entry)

@@ -1,4 +1,4 @@
--- A power of a value from 0 to 1 is at most 2^-54 from the place on where a square on its way is, and 1 less such a value is 1. Assumes nothing.
+-- A power of a value from 0 to 1 is at most 2^-54 where a square on its way is, and 1 less such a value is 1. Assumes nothing.
 use mathlib.Core.Path.{_≡_, refl, subst}
 use mathlib.Core.Logic.{inl, inr}
 use Prim.Native.Nat.{ℕ, zero, suc, _+_, _*_, _/_, _%_, _^_, _≤_, _<_}
@@ -106,12 +106,12 @@ faint-power (suc k) (suc n) b r h g p q =
     last : suc n / 2 ≡ 0 → Within faint (powFrom k (suc n / 2) (b *ᶠ b) (timesIf (suc n % 2) r b))
     last z = let o : suc n % 2 ≡ 1 = omega (arith, z) in rw (z, o, none-left k (b *ᶠ b) (r *ᶠ b)) (faint-product r b q p)
 
--- the base after j squares
+-- the base `b` after `j` squares
 abbrev pub squared : ℕ → Float → Float
 squared zero b = b
 squared (suc j) b = squared j (b *ᶠ b)
 
--- nor has a base up to 1 whose j-th square is faint, from 2^j on
+-- nor has a base up to 1 whose `j`-th square is faint a power of `2 ^ j` or more that is not
 pub faded-power : (j k n : ℕ) (b r : Float) → n ≤ k → 2 ^ j ≤ n → Within one b → Within one r → Within faint (squared j b) → Within faint (powFrom k n b r)
 unfolding powFrom
 faded-power zero k n b r h g p q f = faint-power k n b r h g f q

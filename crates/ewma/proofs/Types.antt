@@ -1,6 +1,13 @@
--- The chart's structs as types of plain data, for the walk. Assumes nothing.
+-- The chart's structs as types of plain data and the contract of `analyze`, for the walk. Assumes nothing.
+use mathlib.Core.Path.{_≡_}
+use mathlib.Core.List.{List}
+use lib.Ieee.{Float}
 use denote.Struct.Laws as SL
+use Rattle.refusals.specs.declared.Answer.{Answer}
 use Rattle.charts.proofs.Plain.{Kind, Good, kindOf}
+use Rattle.ewma.specs.declared.Ewma.{Ewma}
+use Rattle.ewma.specs.declared.EwmaResult.{EwmaResult}
+use Rattle.ewma.specs.Chart.{analyzed}
 use Rattle.ewma.proofs.Ewma as C
 use Rattle.ewma.proofs.Ewma.Laws as C′
 use Rattle.ewma.proofs.EwmaResult as R
@@ -30,3 +37,7 @@ good-r = record { tells = SL.tells R.the-type R′.the-laws; makes = λ 𝓤 H A
 
 pub good-s : Good KS
 good-s = record { tells = SL.tells S.the-type S′.the-laws; makes = λ 𝓤 H A W. SL.makes S.the-type S′.the-plain 𝓤 H A; lawful = SL.lawful S.the-type S′.the-laws }
+
+-- the contract of `analyze`, as the walk takes it
+abbrev pub Outcome : Ewma → List Float → List EwmaResult → Answer → List EwmaResult → Type 0
+Outcome c xs entry r exit = _≡_ {A = Answer × List EwmaResult} (r, exit) (analyzed c xs entry)

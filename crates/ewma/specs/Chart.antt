@@ -9,9 +9,8 @@ use Rattle.floats.specs.Finite.{finite}
 use Rattle.elementary.specs.Root.{sqrt}
 use Rattle.elementary.specs.Power.{powi}
 use Rattle.charts.specs.Runs as Runs
-use Rattle.charts.specs.Contracts as Contracts
-use Rattle.charts.specs.declared.Charted.{Charted}
-use Rattle.charts.specs.declared.Signalled.{Signalled}
+use Rattle.charts.specs.Outcomes as Outcomes
+use Rattle.refusals.specs.declared.Answer.{Answer}
 use Rattle.charts.specs.declared.Observation.{Observation}
 use Rattle.charts.specs.declared.Place.{Place}
 use Rattle.ewma.specs.declared.Ewma.{Ewma}
@@ -33,12 +32,12 @@ accepted c =
 abbrev pub placeOf : Observation → Place
 placeOf index = record { 0 = suc (index .0) }
 
--- half the distance of the limits at a place: L·sigma times the root of lambda / (2 - lambda) · (1 - (1 - lambda)^(2·place))
+-- half the distance of the limits at `place`: L·sigma times the root of lambda / (2 - lambda) · (1 - (1 - lambda)^(2·place))
 unfoldable pub halfWidth : Ewma → Place → Float
 halfWidth c place =
     c .«l_factor» *ᶠ c .sigma *ᶠ sqrt (c .lambda /ᶠ (ofWhole 2 -ᶠ c .lambda) *ᶠ (ofWhole 1 -ᶠ powi (ofWhole 1 -ᶠ c .lambda) (2 * place .0)))
 
--- the record of a statistic with limits so far from the target
+-- the record of a statistic with limits that lie a given width from the target
 abbrev pub within : Ewma → Observation → Float → Bool → Float → EwmaResult
 within c index half signal ewma = record { ewma = ewma; ucl = c .target +ᶠ half; lcl = c .target -ᶠ half; signal = signal; index = index }
 
@@ -50,7 +49,7 @@ outside c half ewma = (c .target +ᶠ half <ᶠ ewma) || (ewma <ᶠ c .target -�
 abbrev pub averaged : Ewma → Float → Float → Float
 averaged c before x = c .lambda *ᶠ x +ᶠ (ofWhole 1 -ᶠ c .lambda) *ᶠ before
 
--- the record of the reading x after another record; a gap carries the statistic forward, without a signal
+-- the record of the reading `x` at `index`, after the record `before`; a gap carries the statistic forward, without a signal
 unfoldable pub stepOf : Ewma → EwmaResult → Observation → Float → EwmaResult
 stepOf c before index x =
     let half = halfWidth c (placeOf index) in
@@ -68,7 +67,7 @@ itself r = r
 abbrev pub nextRecord : Ewma → EwmaResult → ℕ → Float → EwmaResult
 nextRecord c before i x = stepOf c before (record { 0 = i }) x
 
--- the record of the reading at i, those of the first n, and the indices among them that signal
+-- of a chart and a series: the record of the reading at an index, those of the first readings, and the indices among them that signal
 abbrev pub recordAt : Ewma → List Float → ℕ → EwmaResult
 recordAt = Runs.recordAt itself fresh nextRecord
 
@@ -81,9 +80,9 @@ signalOf r = r .signal
 abbrev pub signalling : Ewma → List Float → ℕ → List ℕ
 signalling c xs n = Runs.points itself fresh nextRecord c xs signalOf n
 
--- what `analyze` and `signal_points` answer and leave
-abbrev pub Analyzed : Ewma → List Float → List EwmaResult → Charted → List EwmaResult → Type 0
-Analyzed c xs entry r exit = Contracts.Analyzed (accepted c) (length xs) (records c xs) entry r exit
+-- what `analyze` and `signal_points` answer and leave in the lent slice
+abbrev pub analyzed : Ewma → List Float → List EwmaResult → Answer × List EwmaResult
+analyzed c xs entry = Outcomes.analyzed (accepted c) (length xs) (records c xs) entry
 
-abbrev pub Marked : Ewma → List Float → List ℕ → Signalled → List ℕ → Type 0
-Marked c xs entry r exit = Contracts.Marked (accepted c) (length xs) (signalling c xs (length xs)) entry r exit
+abbrev pub signalled : Ewma → List Float → List ℕ → Answer × List ℕ
+signalled c xs entry = Outcomes.signalled (accepted c) (length xs) (signalling c xs (length xs)) entry

@@ -17,7 +17,7 @@ use Rattle.ewma.specs.declared.State.{State}
 use Rattle.ewma.specs.declared.Settled.{Settled}
 use Rattle.ewma.specs.Chart.{halfWidth, placeOf, within, outside, averaged, fresh}
 
--- half the distance of the limits where the statistic has a share of its variance at rest; at a place that share is 1 less the decay
+-- half the distance of the limits where the statistic has the share `share` of its variance at rest; at a place that share is 1 less the decay
 unfoldable pub widthAt : Ewma → Float → Float
 widthAt c share = c .«l_factor» *ᶠ c .sigma *ᶠ sqrt (c .lambda /ᶠ (ofWhole 2 -ᶠ c .lambda) *ᶠ share)
 
@@ -30,11 +30,11 @@ unfoldable pub settledFrom : ℕ → ℕ → Float → ℕ
 settledFrom zero place decay = place
 settledFrom (suc k) place decay = elim (decay ≤ᶠ faint) [ true ↦ place | false ↦ settledFrom k (2 * place) (decay *ᶠ decay) ]
 
--- the same for a chart, from place 1 on; a decay above 1 never settles, and no chart reaches place 8,192
+-- the same for a chart, beginning with place 1; a decay above 1 never settles, and no chart reaches place 8,192
 unfoldable pub settledOf : Ewma → Settled
 settledOf c = let kept = ofWhole 1 -ᶠ c .lambda in record { from = settledFrom 13 1 (kept *ᶠ kept); «half_width» = widthAt c (ofWhole 1) }
 
--- the width at a place: the one at rest from there on, and before it the place's own
+-- the width at a place: the one at rest where the limits have settled, and before that the place's own
 unfoldable pub widthFrom : Ewma → Settled → Place → Float
 widthFrom c w place = cond (leb (w .from) (place .0)) (w .«half_width») (halfWidth c place)
 

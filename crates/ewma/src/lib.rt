@@ -8,10 +8,9 @@ mod resting;
 mod step;
 
 ghost use mathlib.Core.Path.{_≡_};
-ghost use Rattle.ewma.specs.Chart.{newOf, withParams, Analyzed, Marked};
-use charts::Charted;
+ghost use Rattle.ewma.specs.Chart.{newOf, withParams, analyzed, signalled};
 use charts::Observation;
-use charts::Signalled;
+use refusals::Answer;
 pub use step::following;
 pub use step::judge;
 pub use step::start;
@@ -23,8 +22,8 @@ pub struct Ewma {
     pub l_factor: f64,
 }
 
-// The record of one observation: the statistic after it, the limits at its place, and whether the
-// statistic is outside them.
+// The record of the observation `index`: the statistic `ewma` after it, the limits `ucl` and `lcl` at
+// its place, and whether the statistic is outside them.
 pub struct EwmaResult {
     pub ewma: f64,
     pub ucl: f64,
@@ -33,7 +32,7 @@ pub struct EwmaResult {
     pub index: Observation,
 }
 
-// The place from which on the limits stay, and how far from the target.
+// Where the limits settle: at the place `from` and later ones they lie `half_width` from the target.
 pub struct Settled {
     pub from: usize,
     pub half_width: f64,
@@ -46,7 +45,7 @@ pub struct State {
 }
 
 impl Ewma {
-    // A chart with the weight 0.2 and limits at 3 sigma.
+    // A chart about `target` in units of `sigma`, with the weight 0.2 and limits at 3 sigma.
     pub fn new(target: f64, sigma: f64) -> Ewma
         ensures { λ r. ⌜ r ≡ newOf target sigma ⌝ }
     {
@@ -69,10 +68,10 @@ impl Ewma {
         }
     }
 
-    // Writes a record for each reading to the front of `records`, and leaves the others; a refusal
-    // changes nothing. Cost: one step for each reading.
-    pub fn analyze(self, data: &[f64], records: &mut [EwmaResult]) -> Charted
-        ensures { λ r. ⌜ Analyzed self (now («data» .entry)) (now (records .entry)) r (now (records .exit)) ⌝ }
+    // Writes a record for each reading of `data` to the front of `records`, and leaves the others; a
+    // refusal changes nothing. Cost: one step for each reading.
+    pub fn analyze(self, data: &[f64], records: &mut [EwmaResult]) -> Answer
+        ensures { λ r. ⌜ (r, now (records .exit)) ≡ analyzed self (now («data» .entry)) (now (records .entry)) ⌝ }
     {
         let answer = judge(self, data.len(), records.len());
         let n = charts::count(answer);
@@ -86,11 +85,11 @@ impl Ewma {
         answer
     }
 
-    // Writes the index of each reading that signals to the front of `points`, which needs room for as
-    // many as there are readings, and leaves the others; a refusal changes nothing. Cost: one step
-    // for each reading.
-    pub fn signal_points(self, data: &[f64], points: &mut [usize]) -> Signalled
-        ensures { λ r. ⌜ Marked self (now («data» .entry)) (now (points .entry)) r (now (points .exit)) ⌝ }
+    // Writes the index of each reading of `data` that signals to the front of `points`, which needs
+    // room for as many as there are readings, and leaves the others; a refusal changes nothing. Cost:
+    // one step for each reading.
+    pub fn signal_points(self, data: &[f64], points: &mut [usize]) -> Answer
+        ensures { λ r. ⌜ (r, now (points .exit)) ≡ signalled self (now («data» .entry)) (now (points .entry)) ⌝ }
     {
         let answer = judge(self, data.len(), points.len());
         let n = charts::count(answer);

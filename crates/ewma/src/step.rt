@@ -10,11 +10,11 @@ use crate::State;
 use crate::resting::settled_from;
 use crate::resting::width_at;
 use crate::resting::width_from;
-use charts::Charted;
 use charts::Observation;
 use charts::Place;
+use refusals::Answer;
 
-// Whether the settings are in range.
+// Whether the settings of `chart` are in range.
 fn accepted(chart: Ewma) -> bool
     ensures { λ r. ⌜ r ≡ accepted chart ⌝ }
 {
@@ -25,15 +25,15 @@ fn accepted(chart: Ewma) -> bool
     target & sigma & lambda & l_factor
 }
 
-// What a call answers, for so many readings and room for so many results.
-pub fn judge(chart: Ewma, readings: usize, room: usize) -> Charted
+// What `analyze` answers for `readings` readings and room for `room` results.
+pub fn judge(chart: Ewma, readings: usize, room: usize) -> Answer
     ensures { λ r. ⌜ r ≡ admittedAs (accepted chart) readings room ⌝ }
 {
     charts::admitted(accepted(chart), readings, room)
 }
 
-// The record of the reading x, with limits so far from the target, from the statistic of the record
-// before it. A gap carries it forward.
+// The record of the reading `x` at `index`, with limits that lie `half_width` from the target, from the
+// statistic of the record `before`. A gap carries it forward.
 fn step_by(
     chart: Ewma,
     half_width: f64,
@@ -66,8 +66,8 @@ fn step_by(
     }
 }
 
-// Before the first reading the statistic is the target. Cost: at most 13 squares, for where the limits
-// settle.
+// The state before the first reading: the statistic is the target. Cost: at most 13 squares, for where
+// the limits settle.
 pub fn start(chart: Ewma) -> State
     ensures { λ r. ⌜ r ≡ startState chart ⌝ }
 {
@@ -87,7 +87,8 @@ pub fn start(chart: Ewma) -> State
     State { shown, settled }
 }
 
-// The state after the reading at i, and the same state where there is no such reading.
+// The state after the reading `data[i]`, from the `state` before it; the same state where there is no
+// such reading.
 pub fn following(chart: Ewma, data: &[f64], i: usize, state: State) -> State
     ensures { λ r. ⌜ r ≡ followingState chart (now («data» .entry)) i state ⌝ }
 {

@@ -15,7 +15,7 @@ use lib.Ieee.Fits.{up-pos, down-pos, and-l, and-r, round-fits}
 use lib.Ieee.Nearest.{div-same}
 use Rattle.floats.specs.Numbers.{_+ᶠ_, _*ᶠ_, +0}
 use Rattle.floats.specs.Finite.{abs}
-use Rattle.floats.specs.MinusZero.{negativeZero}
+use Rattle.floats.specs.Inner.MinusZero.{negativeZero}
 use Rattle.floats.proofs.Order.Magnitude.{abs-zero}
 use Rattle.floats.proofs.Order.Zero.{zero-equals}
 
@@ -69,7 +69,7 @@ shift l (negsuc a) h =
 sized : (m u w p d : ℕ) → u * w ≡ p * d → m * u * w ≡ m * p * d
 sized m u w p d e = mul-assoc m u w ∙ ap (λ (z : ℕ). m * z) e ∙ sym (mul-assoc m p d)
 
--- a value that the format holds is so many of the smallest values
+-- a value that the format holds is a whole number, `m * 2 ^ j`, of the smallest values
 pub counted : (s : Bool) (m : ℕ) (e : ℤ) → T (fits binary64 (fin s m e)) → (j : ℕ) × (m * up e * 2 ^ low binary64 ≡ m * 2 ^ j * down e)
 counted s m e f = let j = shift (low binary64) e (held s m e f .fine) in (j .0, sized m (up e) (2 ^ low binary64) (2 ^ j .0) (down e) (j .1))
 
@@ -119,7 +119,7 @@ one-times (fin true m e) f = rw (one-mul (m * up e), one-mul (down e)) (round-ow
 one-times (fin false m e) f = rw (one-mul (m * up e), one-mul (down e)) (round-own false m e f)
 
 -- ---- added to a zero
--- what is not zero
+-- a fraction `b / c` that is not zero
 sum-some : (z s : Bool) (b c : ℕ) → 0 < b → sum binary64 z 0 s b c ≡ round binary64 s b c
 unfolding sum
 sum-some true true b c h = rw (zero-add b)

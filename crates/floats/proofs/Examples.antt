@@ -5,11 +5,11 @@ use mathlib.Core.List.{[], _∷_, map}
 use lib.Ieee.{Float, binary64, ofBits, toBits, lt, ne}
 use Rattle.floats.specs.MaxMin.{larger, smaller}
 
--- a function on values, by bit patterns
+-- the function `f` on values, from the bit pattern `b` to a bit pattern
 unfoldable pub by-bits : (Float → Float) → ℕ → ℕ
 by-bits f b = toBits binary64 (f (ofBits binary64 b))
 
--- of a NaN the other operand, of equals the first, zeros of either sign among them
+-- the larger and the smaller of two patterns' values: the other operand of a NaN, and the first of equals, zeros of either sign among them
 both : ℕ × ℕ → ℕ × ℕ
 both c = (by-bits (λ (x : Float). larger x (ofBits binary64 (c .1))) (c .0), by-bits (λ (x : Float). smaller x (ofBits binary64 (c .1))) (c .0))
 

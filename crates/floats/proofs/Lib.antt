@@ -1,5 +1,4 @@
 pub mod Order
-pub mod Outcomes
 pub mod Examples
 pub mod Exact
 pub mod MinusZero

@@ -14,12 +14,12 @@ use lib.Ieee.Fits.{up-pos, down-pos, neg-fits, add-fits, mul-fits}
 use lib.Ieee.Scale.{finite, grid, round-val, round-under}
 use Rattle.floats.specs.Numbers.{_+ᶠ_, _-ᶠ_, _*ᶠ_, _<ᶠ_, +0}
 use Rattle.floats.specs.MaxMin.{larger}
-use Rattle.floats.specs.MinusZero.{negativeZero}
+use Rattle.floats.specs.Inner.MinusZero.{negativeZero}
 use Rattle.floats.proofs.Exact.{counted, only-zero, minus-zero-plus, either-zero-plus}
 use Rattle.floats.proofs.Order.Fractions.{Leq, le→leq}
 use Rattle.floats.proofs.Order.Rounding.{round-le}
 
--- a zero with a sign, however it is written; a value that the format holds is such a zero only where it is -0
+-- a zero with a sign, whatever its exponent; of the values that the format holds, -0 is the only one
 abbrev pub minus-zero : Float → Bool
 minus-zero nan = false
 minus-zero (inf s) = false
@@ -40,7 +40,7 @@ plain-round a c = go (round binary64 false a c) (λ t. round-val binary64 a c (r
     go (fin s zero e) v = v tt .0
     go (fin s (suc m) e) v = refl
 
--- with one, where it is as much as the smallest value
+-- with a sign, where the fraction `a / c` is at least the smallest value
 pub negative-round : (a c : ℕ) → 0 < c → c ≤ a * 2 ^ low binary64 → minus-zero (round binary64 true a c) ≡ false
 unfolding round
 negative-round a c h l = go (round binary64 true a c) (round-le binary64 true a c true 1 (2 ^ low binary64) h (pow-pos (low binary64)) (ordered (2 ^ low binary64) l))
@@ -148,7 +148,7 @@ add-plain (fin s m e) nan f g h = unfold add in refl
 add-plain (fin s m e) (inf t) f g h = unfold add in refl
 add-plain (fin s m e) (fin t n d) f g h = fin-sum s m e t n d f g h
 
--- the same of the second: -0 and a value is that value
+-- the same where the second is not -0: -0 and a value is that value
 pub add-plain-second : (x y : Float) → T (fits binary64 x) → T (fits binary64 y) → minus-zero y ≡ false → minus-zero (x +ᶠ y) ≡ false
 add-plain-second nan y f g h = add-plain nan y f g refl
 add-plain-second (inf s) y f g h = add-plain (inf s) y f g refl
@@ -194,6 +194,6 @@ plain-square x = record { held = mul-fits binary64 x x; other = go x }
     go (fin true m e) = unfold mul in plain-round (m * up e * (m * up e)) (down e * down e)
     go (fin false m e) = unfold mul in plain-round (m * up e * (m * up e)) (down e * down e)
 
--- a sum that starts at either zero is the same once such a value is added
+-- a sum that starts at either zero is `y` once `y` is added
 pub plain-from-either-zero : {y : Float} (z : Bool) → Plain y → fin z 0 (pos 0) +ᶠ y ≡ y
 plain-from-either-zero {y} z p = either-zero-plus z y (p .held) (plain-is-other p)

@@ -1,10 +1,10 @@
--- What is finite, and magnitudes. Definitions only.
+-- Whether a value is finite, and its magnitude. Definitions only.
 use mathlib.Core.Bool.{false}
 use lib.Ieee.{Float, nan, inf, fin}
--- neither NaN nor an infinity: the library's own word
+-- whether a value is neither NaN nor an infinity: the library's own definition
 pub use lib.Ieee.Scale.{finite}
 
--- the magnitude: the same value with the sign clear
+-- the magnitude: the value with its sign clear; NaN stays
 unfoldable pub abs : Float → Float
 abs nan = nan
 abs (inf s) = inf false

@@ -2,4 +2,4 @@ pub mod Numbers
 pub mod Finite
 pub mod MaxMin
 pub mod Ahead
-pub mod MinusZero
+pub mod Inner

@@ -7,7 +7,7 @@ use lib.Ieee.{Float, inf, fin, binary64, low, up, down, add, sub, mul, div, lt, 
 infixl 65 _+ᶠ_ _-ᶠ_
 infixl 70 _*ᶠ_ _/ᶠ_
 infix 50 _<ᶠ_ _≤ᶠ_
--- one operation each, rounded once
+-- binary64's operations, each rounded once, and its comparisons
 abbrev pub _+ᶠ_ : Float → Float → Float
 x +ᶠ y = add binary64 x y
 
@@ -36,15 +36,15 @@ abbrev pub +∞ : Float
 abbrev pub -∞ : Float
 -∞ = inf true
 
--- a whole number as a float
+-- the whole number `n` as a float
 abbrev pub ofWhole : ℕ → Float
 ofWhole n = ofInt binary64 (pos n)
 
--- what a decimal literal stands for: the number nearest to the fraction a / b
+-- what a decimal literal stands for: the float nearest to the fraction `a / b`
 unfoldable pub ratio : ℕ → ℕ → Float
 unfolding round
 ratio a b = round binary64 false a b
 
--- how many of binary64's smallest value, 2 ^ -1074, the number m * 2 ^ e is
+-- how many of binary64's smallest value, 2 ^ -1074, the number `m * 2 ^ e` is
 abbrev pub smallest : ℕ → ℤ → ℕ
 smallest m e = m * up e * 2 ^ low binary64 / down e

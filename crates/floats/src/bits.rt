@@ -2,7 +2,7 @@
 ghost use mathlib.Core.Path.{_≡_};
 ghost use lib.Ieee.{binary64, ofBits, toBits};
 
-// The value with this bit pattern.
+// The value whose bit pattern is `pattern`: NaN for every pattern of a NaN.
 pub fn from_bits(pattern: u64) -> f64
     ensures { λ r. ⌜ r ≡ ofBits binary64 pattern ⌝ }
 {
@@ -12,7 +12,7 @@ pub fn from_bits(pattern: u64) -> f64
     f64::from_bits(pattern)
 }
 
-// The bit pattern of x, which for NaN is 0x7ff8_0000_0000_0000.
+// The bit pattern of `x`, which for NaN is 0x7ff8_0000_0000_0000.
 pub fn to_bits(x: f64) -> u64
     ensures { λ r. ⌜ r ≡ toBits binary64 x ⌝ }
 {

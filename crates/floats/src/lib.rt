@@ -1,9 +1,9 @@
-// What every chart and search asks of a value: whether it is finite, its magnitude, the larger and the
-// smaller of two, which of two stands first in order, and its bit pattern.
+// Values, as every chart and search uses them: whether one is finite, its magnitude, the larger and the
+// smaller of two, which of two stands first in order, and the bit pattern of one.
 //
-// Each function takes every value, asks nothing of its caller, and ends with the value that one
-// definition gives for it, to the bit; NaN counts as one value. `proofs/Order/` has the laws of IEEE
-// order that the charts' promises rest on.
+// Each function takes every value, asks nothing of its caller, and returns the value that one definition
+// of `specs/` gives, to the bit; NaN counts as one value. `proofs/Order/` has the laws of IEEE order
+// that the charts' promises rest on.
 mod bits;
 mod larger;
 mod magnitude;

@@ -1,8 +1,8 @@
-// What is finite, and magnitudes.
+// Whether a value is finite, and its magnitude.
 ghost use mathlib.Core.Path.{_≡_};
 ghost use Rattle.floats.specs.Finite.{finite, abs};
 
-// Whether x is neither NaN nor an infinity.
+// Whether `x` is neither NaN nor an infinity.
 pub fn finite(x: f64) -> bool
     ensures { λ r. ⌜ r ≡ finite x ⌝ }
 {
@@ -12,7 +12,7 @@ pub fn finite(x: f64) -> bool
     false
 }
 
-// The magnitude of x. The magnitude of either zero is +0.
+// The magnitude of `x`: +0 for either zero, and NaN for NaN.
 pub fn abs(x: f64) -> f64
     ensures { λ r. ⌜ r ≡ abs x ⌝ }
 {

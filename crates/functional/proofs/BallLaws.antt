@@ -12,13 +12,14 @@ use lib.Ieee.{Float}
 use Rattle.areas.specs.Parts.{tab}
 use Rattle.areas.proofs.PartLaws.{tab-same}
 use Rattle.candidate.specs.declared.Candidate.{Candidate}
-use Rattle.candidate.specs.declared.Ball.{Ball}
+use Rattle.candidate_balls.specs.declared.Ball.{Ball}
 use Rattle.candidate.specs.Balls.{heldAt, ballsAt, meant, hasRoom}
 use Rattle.candidate.specs.Cuts.{cutLosing, cutIn}
 use Rattle.candidate.proofs.RootLaws.{cut-in}
-use Rattle.candidate.specs.Losses.{loseInside, Lost}
-use Rattle.standing.proofs.AreaLaws.{lost-balls, lost-frame, lost-few, lost-rooted}
-use Rattle.functional.specs.Held.{slotAt, ballFloats, Balls, lostBy}
+use Rattle.candidate.specs.Losses.{loseInside}
+use Rattle.candidate_balls.specs.Losing.{Lost}
+use Rattle.candidate.proofs.AreaLaws.{lost-balls, lost-frame, lost-few, lost-rooted}
+use Rattle.functional.specs.Inner.Held.{slotAt, ballFloats, Balls, lostBy}
 use Rattle.functional.proofs.SlotLaws.{ball-in-pool}
 
 -- ---- an area of its own

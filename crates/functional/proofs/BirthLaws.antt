@@ -14,16 +14,16 @@ use Rattle.floats.specs.Numbers.{+0}
 use Rattle.areas.specs.Parts.{part}
 use Rattle.areas.proofs.PartLaws.{part-at, part-front, tab-at, tab-length, frame-refl, frame-wide, frame-trans}
 use Rattle.candidate.specs.declared.Candidate.{Candidate}
-use Rattle.candidate.specs.declared.Ball.{Ball}
+use Rattle.candidate_balls.specs.declared.Ball.{Ball}
 use Rattle.candidate.specs.Boxes.{ballOf, restrict}
 use Rattle.candidate.specs.Balls.{ballsAt, meant}
 use Rattle.candidate.specs.Cuts.{cutIn}
-use Rattle.candidate.specs.Compared.{isDominated}
+use Rattle.candidate.specs.Dominated.{isDominated}
 use Rattle.candidate.specs.Losses.{loseInside}
 use Rattle.functional.specs.declared.Plan.{Plan}
 use Rattle.search_rules.specs.declared.Facing.{Facing}
 use Rattle.search_rules.specs.Functional.{Living, besides, facing, outerBall, innerBall, livingAt, lostTo, restricted, cutBack, winnersTo, rangeBox, born, joinedBy, joinOf}
-use Rattle.functional.specs.Held.{task, slotAt, boxAt, facingAt, ballFloats, putBox, putFacing, Mapped, Balls, lostBy, livedAt, lived, BallsOf, Sane, narrowedAt, Remarked, Stored, survivorsTo, Narrowed, Placed, Wide, bornFrom, Borne, Joins}
+use Rattle.functional.specs.Inner.Held.{task, slotAt, boxAt, facingAt, ballFloats, putBox, putFacing, Mapped, Balls, lostBy, livedAt, lived, BallsOf, Sane, narrowedAt, Remarked, Stored, survivorsTo, Narrowed, Placed, Wide, bornFrom, Borne, Joins}
 use Rattle.functional.proofs.SlotLaws.{slot-long, box-put, balls-beside-box, facing-put, box-beside-facing, balls-beside-facing}
 use Rattle.functional.proofs.BallLaws.{balls-cut}
 use Rattle.functional.proofs.BoxLaws.{box-by-numbers, box-wide, restrict-wide, cut-wide}

@@ -9,13 +9,13 @@ use lib.ListN.{length, length-set}
 use lib.Ieee.{Float}
 use Rattle.floats.specs.Numbers.{_-ᶠ_}
 use Rattle.candidate.specs.declared.Candidate.{Candidate}
-use Rattle.candidate.specs.declared.Ball.{Ball}
+use Rattle.candidate_balls.specs.declared.Ball.{Ball}
 use Rattle.candidate.specs.Boxes.{Span}
 use Rattle.candidate.specs.Boxes.{at, spanAt, withSpan, overChannels, alongEach, gap2, narrowed, missed, nothing, restrict, gone}
 use Rattle.candidate.specs.Balls.{ballAt}
 use Rattle.candidate.specs.Cuts.{cutBy, cutTo, cutLosing}
 use Rattle.search_rules.specs.Functional.{Task, rangeBox}
-use Rattle.functional.specs.Held.{boxAt, Wide}
+use Rattle.functional.specs.Inner.Held.{boxAt, Wide}
 
 with-wide : (k : ℕ) (s : Span) (x : Candidate) → Wide x → Wide (withSpan k s x)
 unfolding withSpan

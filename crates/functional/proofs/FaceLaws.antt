@@ -15,7 +15,7 @@ use Rattle.costs.proofs.SummedLaws.{held-segment, cost-of-run}
 use Rattle.functional.specs.declared.Plan.{Plan}
 use Rattle.search_rules.specs.declared.Facing.{Facing}
 use Rattle.search_rules.specs.Functional.{price, centreAlong, besides, slackOf, facing}
-use Rattle.functional.specs.Held.{Room, task}
+use Rattle.functional.specs.Inner.Held.{Room, task}
 
 pub mean-held : (run : List Float) (q : Plan) (xs : List Float) (channel place a b : ℕ) → Sums run (q .n) (q .channels) xs → channel < q .channels → place ≡ channel * (2 * (q .n + 1))
     → a < b → b ≤ q .n → (getD xs (place + b) nan -ᶠ getD xs (place + a) nan) /ᶠ ofWhole (b - a) ≡ centreAlong (task run q) channel a b

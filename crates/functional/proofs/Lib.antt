@@ -1,4 +1,5 @@
 pub mod SlotLaws
+pub mod ChannelLaws
 pub mod FaceLaws
 pub mod BallLaws
 pub mod BoxLaws

@@ -1,7 +1,7 @@
 -- Laws of the words of the candidates: how many balls a word says, when it is marked, and the words of narrowed boxes. Assumes nothing.
 use Prim.Native.Nat.{ℕ, suc, _+_, _*_, _%_, _≤_, _<_}
 use mathlib.Core.Bool.{Bool, true, false, cond, false≢true}
-use mathlib.Core.Path.{_≡_, refl, sym, ap, ap₂, _∙_, subst}
+use mathlib.Core.Path.{_≡_, refl, sym, ap, _∙_, subst}
 use mathlib.Core.List.{List}
 use mathlib.Core.Logic.{⊎-elim}
 use native.Mathlib.Omega.{arith}
@@ -12,14 +12,12 @@ use lib.ListN.{length, getD, set}
 use lib.Ieee.{Float}
 use Rattle.areas.proofs.PartLaws.{frame-refl, frame-set}
 use Rattle.candidate.specs.declared.Candidate.{Candidate}
-use Rattle.candidate.specs.declared.Ball.{Ball}
+use Rattle.candidate_balls.specs.declared.Ball.{Ball}
 use Rattle.candidate.specs.Boxes.{restrict}
-use Rattle.candidate.specs.Compared.{equals}
-use Rattle.standing.proofs.StayLaws.{restrict-stays}
 use Rattle.search_rules.specs.declared.Facing.{Facing}
 use Rattle.search_rules.specs.Functional.{outerBall}
-use Rattle.functional.specs.Held.{slotAt, boxAt, facingAt, ballsIn, isMarked, SameBox, narrowedAt, Remark, Remarked, Wide}
-use Rattle.functional.proofs.BoxLaws.{box-by-numbers}
+use Rattle.functional.specs.Inner.Held.{slotAt, boxAt, facingAt, ballsIn, isMarked, SameBox, narrowedAt, Remark, Remarked, Wide}
+use Rattle.functional.proofs.BoxLaws.{box-by-numbers, box-wide, restrict-wide}
 
 -- ---- one word
 pub unmarked-balls : (word : ℕ) → word ≤ 127 → ballsIn word ≡ word
@@ -54,10 +52,11 @@ module _ (channels : ℕ) (slot : List Float) (x : Facing) (ball : Ball) (before
   unfolding narrowedAt
   narrowed-is = ea ∙ (rw (eb, ex, ec) refl)
 
-  -- one that equals what it was is what it was
-  pub narrowed-stays : (r : Bool) → r ≡ equals after before → r ≡ true → narrowedAt channels slot ≡ boxAt slot
-  unfolding narrowedAt boxAt
-  narrowed-stays r q t = restrict-stays channels _ _ _ _ _ (ap₂ equals (sym narrowed-is) (sym ec) ∙ sym q ∙ t)
+  -- one with the numbers that it had is what it was
+  pub narrowed-stays : SameBox after before → narrowedAt channels slot ≡ boxAt slot
+  narrowed-stays s =
+      let w : Wide before = rw ec (box-wide slot) in
+      sym narrowed-is ∙ same-boxes after before (rw ea (restrict-wide channels ball before w)) w s ∙ ec
 
 -- ---- all words
 pub remarked-none : (channels : ℕ) (pool : List Float) (ix : List ℕ) (w : ℕ) → Remarked channels pool ix ix w 0

@@ -13,12 +13,12 @@ use lib.Ieee.{Float}
 use Rattle.areas.specs.Parts.{tab, Frame}
 use Rattle.areas.proofs.PartLaws.{tab-same, tab-at, tab-more, frame-refl, frame-set, frame-trans}
 use Rattle.candidate.specs.declared.Candidate.{Candidate}
-use Rattle.candidate.specs.declared.Ball.{Ball}
+use Rattle.candidate_balls.specs.declared.Ball.{Ball}
 use Rattle.candidate.specs.Balls.{heldAt, ballsAt}
 use Rattle.candidate.specs.Cuts.{cutLosing, cutIn}
-use Rattle.candidate.specs.Compared.{isDominated}
+use Rattle.candidate.specs.Dominated.{isDominated}
 use Rattle.search_rules.specs.Functional.{Living, livingAt, cutBack, joinedBy}
-use Rattle.functional.specs.Held.{slotAt, boxAt, ballFloats, putBox, Put, Balled, Balls, ballsIn, isMarked, livedAt, lived, Kept, BallsOf, Sane, SameBox, putIndices, Stored, Settled, survivorsTo, Narrowed, Wide}
+use Rattle.functional.specs.Inner.Held.{slotAt, boxAt, ballFloats, putBox, Put, Balled, Balls, ballsIn, isMarked, livedAt, lived, Kept, BallsOf, Sane, SameBox, putIndices, Stored, Settled, survivorsTo, Narrowed, Wide}
 use Rattle.functional.proofs.SlotLaws.{slot-long, slot-before, slot-after, box-put, balls-beside-box, ball-in-pool}
 use Rattle.functional.proofs.BallLaws.{balls-kept, slot-cut}
 use Rattle.functional.proofs.BoxLaws.{box-by-numbers, cut-wide, box-wide}

@@ -4,46 +4,32 @@ use mathlib.Core.Bool.{Bool, true, false, cond, true≢false, false≢true}
 use mathlib.Core.Path.{_≡_, refl, sym, ap, _∙_}
 use mathlib.Core.List.{List, [], _∷_, _++_}
 use native.Mathlib.Omega.{arith}
-use borrow.Author.Tests.{leb-true, eq-eqb, ne-eqb}
+use borrow.Author.Tests.{leb-true}
 use lib.Dec.{leb}
 use lib.Seq.{getD-set-same, getD-set-other}
 use lib.ListN.{length, getD, set, replicate, length-set}
 use lib.Ieee.{Float, neg}
+use Rattle.logic.proofs.Laws.{both}
 use Rattle.floats.specs.Numbers.{+0}
 use Rattle.areas.specs.Parts.{part, tab}
 use Rattle.areas.proofs.PartLaws.{part-above, store, frame-set}
 use Rattle.areas.specs.Cleared.{Cleared}
 use Rattle.areas.proofs.ClearedLaws.{cleared-part, cleared-whole, cleared-tail}
-use Rattle.ranges.specs.declared.Range.{Range}
-use Rattle.sums.specs.EachChannel.{RanEach}
-use Rattle.sums.proofs.ChannelLaws.{fits, sums-kept}
+use Rattle.sums.specs.EachChannel.{Sums}
+use Rattle.sums.proofs.ChannelLaws.{sums-kept}
 use Rattle.search_rules.specs.Room.{searchFits}
-use Rattle.search_rules.proofs.RoomLaws.{and-first, and-second, Series, Roomy, fits-room, split-floats}
+use Rattle.search_rules.proofs.RoomLaws.{Series, Roomy, fits-room, split-floats}
 use Rattle.candidate.specs.declared.Candidate.{Candidate}
 use Rattle.candidate.specs.Balls.{ballsAt}
 use Rattle.functional.specs.declared.Plan.{Plan}
-use Rattle.search_rules.specs.Functional.{Task, besides, rangeAlong, rangeBox, stateAfter}
+use Rattle.search_rules.specs.Functional.{Task, rangeBox, stateAfter}
 use Rattle.search_rules.specs.Partitioned.{fitsTask, taskFits, slotsSuffice, indicesAfter, Partitioned}
-use Rattle.functional.specs.Held.{Room, task, slotAt, boxAt, ballFloats, putBox, Put, ballsIn, livedAt, lived, BallsOf, Sane, Holds, Searched, Ran}
+use Rattle.functional.specs.Inner.Held.{Room, task, slotAt, boxAt, ballFloats, putBox, Put, ballsIn, livedAt, lived, BallsOf, Sane, Holds, Searched, Ran}
 use Rattle.functional.proofs.SlotLaws.{slot-long, box-put}
 use Rattle.functional.proofs.BallLaws.{balls-none}
 use Rattle.functional.proofs.MarkLaws.{few-unmarked}
 use Rattle.functional.proofs.BoxLaws.{range-wide, box-by-numbers}
 use Rattle.search_rules.proofs.PeakLaws.{slots-too-few}
-
--- ---- the range
-pub range-of-task : (run : List Float) (n channels m : ℕ) (penalty : Float)
-    → rangeBox (record { run = run; n = n; channels = channels; m = 0; penalty = +0 }) ≡ rangeBox (record { run = run; n = n; channels = channels; m = m; penalty = penalty })
-unfolding rangeBox rangeAlong besides
-range-of-task run n channels m penalty = refl
-
-pub range-one : (k : Task) (x : Range) → k .channels ≡ 1 → x ≡ rangeAlong k 0 → record { lo = x .lo ∷ +0 ∷ []; hi = x .hi ∷ +0 ∷ [] } ≡ rangeBox k
-unfolding rangeBox besides
-range-one k x e f = rw (eq-eqb (k .channels) 1 e, f) refl
-
-pub range-two : (k : Task) (x y : Range) → (k .channels ≡ 1 → ⊥) → x ≡ rangeAlong k 0 → y ≡ rangeAlong k 1 → record { lo = x .lo ∷ y .lo ∷ []; hi = x .hi ∷ y .hi ∷ [] } ≡ rangeBox k
-unfolding rangeBox besides
-range-two k x y e f g = rw (ne-eqb (k .channels) 1 e, f, g) refl
 
 -- ---- the plan
 pub plan-room : (penalty : Float) (run n k m lf li lp f slots : ℕ) (range : Candidate) → 1 ≤ k → k ≤ 2 → Series run n k m → Roomy n k lf li → f ≡ k * (2 * (n + 1)) → 200 * slots ≤ lp
@@ -78,26 +64,25 @@ first-sane channels pool ix w e = record { each = λ j h. only j h }
         none : suc j < 1 → ⊥
         none l = omega arith
 
-pub begun : (run : List Float) (q : Plan) (xs xs₁ xs₂ : List Float) (ix ix₁ : List ℕ) (pool pool₁ : List Float) (i j₁ j₂ : ℕ) (v : Float) → Room q (length xs) (length ix) (length pool) → q .channels * q .n ≤ length run
-    → 1 ≤ q .slots → q .range ≡ rangeBox (task run q) → RanEach run (q .n) (q .channels) xs xs₁ → Cleared +0 xs₁ xs₂ (q .f) (q .n + 1) → Cleared 0 ix ix₁ 0 (q .n + 1)
+pub begun : (run : List Float) (q : Plan) (xs xs₂ : List Float) (ix ix₁ : List ℕ) (pool pool₁ : List Float) (i j₁ j₂ : ℕ) (v : Float) → Room q (length xs) (length ix) (length pool) → Sums run (q .n) (q .channels) xs
+    → 1 ≤ q .slots → q .range ≡ rangeBox (task run q) → Cleared +0 xs xs₂ (q .f) (q .n + 1) → Cleared 0 ix ix₁ 0 (q .n + 1)
     → Put pool pool₁ 0 (putBox (slotAt pool 0) (q .range)) → i ≡ q .f → v ≡ neg (q .penalty) → j₁ ≡ q .n + 1 → j₂ ≡ 2 * (q .n + 1)
     → Holds run q (set xs₂ i v) (set (set ix₁ j₁ 0) j₂ 0) pool₁ 1 (q .m)
 unfolding stateAfter
-begun run q xs xs₁ xs₂ ix ix₁ pool pool₁ i j₁ j₂ v room h some range su fs is put e g e₁ e₂ =
+begun run q xs xs₂ ix ix₁ pool pool₁ i j₁ j₂ v room su some range fs is put e g e₁ e₂ =
     let w = q .n + 1 in
-    let fit = fits (length run) (q .n) (q .channels) (length xs) (omega arith) (room .short) h (omega arith) in
     let iy = set (set ix₁ j₁ 0) j₂ 0 in
-    let long : length (set xs₂ i v) ≡ length xs = length-set xs₂ i v ∙ fs .frame .long ∙ su .frame fit .long in
+    let long : length (set xs₂ i v) ≡ length xs = length-set xs₂ i v ∙ fs .frame .long in
     let long₁ : length ix₁ ≡ length ix = is .frame .long in
     let long₂ : length iy ≡ length ix = length-set (set ix₁ j₁ 0) j₂ 0 ∙ length-set ix₁ j₁ 0 ∙ long₁ in
-    let long₃ : length xs₂ ≡ length xs = fs .frame .long ∙ su .frame fit .long in
+    let long₃ : length xs₂ ≡ length xs = fs .frame .long in
     let start : q .m - q .m ≡ 0 = omega arith in
     let tau : getD iy (w + 0) 0 ≡ 0 = getD-set-other (set ix₁ j₁ 0) j₂ (w + 0) 0 0 (omega arith) ∙ ap (λ (p : ℕ). getD (set ix₁ j₁ 0) p 0) (same e₁) ∙ getD-set-same ix₁ j₁ 0 0 (omega arith) in
     let balls : getD iy (2 * w + 0) 0 ≡ 0 = ap (λ (p : ℕ). getD iy p 0) (same₂ e₂) ∙ getD-set-same (set ix₁ j₁ 0) j₂ 0 0 (simp length-set (omega arith)) in
     let box : boxAt (slotAt pool₁ 0) ≡ rangeBox (task run q) = ap boxAt (put .here) ∙ box-put (slotAt pool 0) (q .range) (slot-long pool 0 (omega arith)) ∙ box-by-numbers (q .range) (rw range (range-wide (task run q))) ∙ range in
     record {
       room = rw (long, long₂, put .frame .long) room;
-      sums = sums-kept (frame-set i v (fs .frame) (omega arith) (omega arith)) (omega arith) (su .written fit);
+      sums = sums-kept (frame-set i v (fs .frame) (omega arith) (omega arith)) (omega arith) su;
       range = range;
       sane = first-sane (q .channels) pool₁ iy w balls;
       from = omega arith;
@@ -126,15 +111,15 @@ ran s = record { answer = s .answer; last = s .last }
 
 pub fit-one : (run n k m lf li : ℕ) → fitsTask run n k m lf li ≡ true → 1 ≤ k
 unfolding fitsTask
-fit-one run n k m lf li e = leb-true 1 k (and-first (leb 1 k) _ e)
+fit-one run n k m lf li e = leb-true 1 k (both (leb 1 k) _ e .0)
 
 pub fit-two : (run n k m lf li : ℕ) → fitsTask run n k m lf li ≡ true → k ≤ 2
 unfolding fitsTask
-fit-two run n k m lf li e = leb-true k 2 (and-first (leb k 2) _ (and-second (leb 1 k) _ e))
+fit-two run n k m lf li e = leb-true k 2 (both (leb k 2) _ (both (leb 1 k) _ e .1) .0)
 
 pub fit-search : (run n k m lf li : ℕ) → fitsTask run n k m lf li ≡ true → searchFits run n k m lf li ≡ true
 unfolding fitsTask
-fit-search run n k m lf li e = and-second (leb k 2) _ (and-second (leb 1 k) _ e)
+fit-search run n k m lf li e = both (leb k 2) _ (both (leb 1 k) _ e .1) .1
 
 -- the indices behind the predecessors, or all of them
 left-indices : (k : Task) (pool : ℕ) (ix iy : List ℕ) (r : Bool) (place size : ℕ) → Ran k (pool / 200) ix r → Cleared 0 ix iy place size → place ≡ cond r (k .n + 1) 0 → size ≡ length ix → k .n + 1 ≤ length ix

@@ -17,7 +17,7 @@ use Rattle.candidate.specs.declared.Candidate.{Candidate}
 use Rattle.candidate.specs.Boxes.{at}
 use Rattle.candidate.specs.Balls.{heldAt}
 use Rattle.search_rules.specs.declared.Facing.{Facing}
-use Rattle.functional.specs.Held.{slotAt, boxAt, facingAt, ballFloats, putFour, putBox, putFacing, Put, Copied, Balled, Mapped}
+use Rattle.functional.specs.Inner.Held.{slotAt, boxAt, facingAt, ballFloats, putFour, putBox, putFacing, Put, Copied, Balled, Mapped}
 
 -- ---- one slot
 pub slot-read : (pool : List Float) (j i p : ℕ) → p ≡ 200 * j + i → i < 200 → getD pool p nan ≡ getD (slotAt pool j) i nan

@@ -20,7 +20,7 @@ use Rattle.search_rules.proofs.All.{all-at}
 use Rattle.search_rules.proofs.MinimumLaws.{scan-takes}
 use Rattle.functional.specs.declared.Plan.{Plan}
 use Rattle.search_rules.specs.Functional.{Task, Living, State, price, places, bestAt, livingAt, joinOf, livingAfter, stepOf, stateAfter, functional}
-use Rattle.functional.specs.Held.{Room, task, livedAt, lived, BallsOf, Sane, AllBelow, Joins, taus, Holds, Stepped, Searched}
+use Rattle.functional.specs.Inner.Held.{Room, task, livedAt, lived, BallsOf, Sane, AllBelow, Joins, taus, Holds, Stepped, Searched}
 use Rattle.functional.proofs.BirthLaws.{lived-long}
 use Rattle.search_rules.proofs.FunctionalLaws.{places-length, places-at, placed-after}
 use Rattle.search_rules.proofs.PeakLaws.{peak-within, slots-too-few, slots-enough}

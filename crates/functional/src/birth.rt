@@ -2,10 +2,13 @@
 ghost use mathlib.Core.Path.{_≡_};
 ghost use Prim.Native.Nat.{_+_, _*_, _≤_, _<_};
 ghost use lib.ListN.{length};
+ghost use Rattle.search_rules.specs.Limits.{slotFloats};
+ghost use Rattle.refusals.specs.Limits.{maxReadings};
+ghost use Rattle.candidate_balls.specs.Losing.{losingBalls};
 ghost use Rattle.sums.specs.EachChannel.{Sums};
 ghost use Rattle.candidate.specs.Balls.{ballsAt};
 ghost use Rattle.search_rules.specs.Functional.{rangeBox};
-ghost use Rattle.functional.specs.Held.{Room, task, Balls, Sane, AllBelow, Placed, Wide, bornFrom, Borne, Joins};
+ghost use Rattle.functional.specs.Inner.Held.{Room, task, Balls, Sane, AllBelow, Placed, Wide, bornFrom, Borne, Joins};
 use crate::Plan;
 use crate::faces::face_all;
 use crate::losing::lose_all;
@@ -14,9 +17,9 @@ use crate::narrowing::restrict_all;
 use crate::narrowing::store;
 use crate::slots::copy_balls;
 use candidate::Candidate;
-use standing::is_dominated;
 
-// A candidate with its box and its balls, which stand at the front of an area, into slot j.
+// Puts the candidate `tau` into slot `j`: its box `candidate`, and its `balls` balls, which stand at the
+// front of `born`.
 fn place(
     indices: &mut [usize],
     pool: &mut [f64],
@@ -27,15 +30,15 @@ fn place(
     balls: usize,
     candidate: Candidate,
 )
-    requires { ⌜ (200 * j + 200 ≤ length (now pool)) × (j < w) × (w ≤ 4097) × (3 * w ≤ length (now indices)) × (length (now born) ≡ 192) × (balls ≤ 64) ⌝ }
+    requires { ⌜ (slotFloats * j + slotFloats ≤ length (now pool)) × (j < w) × (w ≤ maxReadings + 1) × (3 * w ≤ length (now indices)) × (length (now born) ≡ 3 * losingBalls) × (balls ≤ losingBalls) ⌝ }
     ensures { λ r. ⌜ Placed (now (pool .entry)) (now (pool .exit)) (now (indices .entry)) (now (indices .exit)) (now (born .entry)) w j tau balls candidate ⌝ }
 {
     copy_balls(pool, j, born, balls);
     store(indices, pool, w, j, tau, balls, candidate);
 }
 
-// The candidate b, whose balls stand in `born`, after `kept` others: how many there are then. Where
-// no slot is left for it nothing is stored.
+// Adds the candidate `b`, whose `balls` balls stand at the front of `born`, to the `kept` others unless
+// it is dominated, and says how many there are then. Where no slot is left for it nothing is stored.
 fn bear(
     indices: &mut [usize],
     pool: &mut [f64],
@@ -45,13 +48,13 @@ fn bear(
     balls: usize,
     b: usize,
 ) -> usize
-    requires { ⌜ (length (now born) ≡ 192) × (kept ≤ plan .n) × (plan .n ≤ 4096) × (3 * (plan .n + 1) ≤ length (now indices)) × (200 * plan .slots ≤ length (now pool)) × Balls (plan .channels) (now born) balls (ballsAt (plan .channels) (now born) 0 balls) × Wide (plan .range) ⌝ }
+    requires { ⌜ (length (now born) ≡ 3 * losingBalls) × (kept ≤ plan .n) × (plan .n ≤ maxReadings) × (3 * (plan .n + 1) ≤ length (now indices)) × (slotFloats * plan .slots ≤ length (now pool)) × Balls (plan .channels) (now born) balls (ballsAt (plan .channels) (now born) 0 balls) × Wide (plan .range) ⌝ }
     ensures { λ r. ⌜ Borne plan (now (pool .entry)) (now (pool .exit)) (now (indices .entry)) (now (indices .exit)) kept (bornFrom plan (now (born .entry)) balls b) balls r ⌝ }
 {
     let channels = plan.channels;
     let range = plan.range;
     let cut = range.cut_losing(channels, born, 0, balls);
-    if is_dominated(cut, channels) {
+    if cut.is_dominated(channels) {
         return kept;
     }
     if kept < plan.slots {
@@ -61,8 +64,8 @@ fn bear(
     kept + 1
 }
 
-// b joins: how many candidates live then. More than the slots means that they do not suffice, and the
-// areas then hold nothing of use.
+// `b` joins the `count` living candidates; says how many live then. More than the slots means that these
+// do not suffice, and the areas then hold nothing of use. Its balls are gathered in `born`.
 pub(crate) fn birth(
     run: &[f64],
     floats: &[f64],
@@ -73,7 +76,7 @@ pub(crate) fn birth(
     count: usize,
     b: usize,
 ) -> usize
-    requires { ⌜ (b ≤ plan .n) × (count ≤ plan .slots) × (count ≤ plan .n) × Sums (now run) (plan .n) (plan .channels) (now floats) × Room plan (length (now floats)) (length (now indices)) (length (now pool)) × AllBelow b (now indices) (plan .n + 1) count × Sane (plan .channels) (now pool) (now indices) (plan .n + 1) count × (length (now born) ≡ 192) × (plan .range ≡ rangeBox (task (now run) plan)) ⌝ }
+    requires { ⌜ (b ≤ plan .n) × (count ≤ plan .slots) × (count ≤ plan .n) × Sums (now run) (plan .n) (plan .channels) (now floats) × Room plan (length (now floats)) (length (now indices)) (length (now pool)) × AllBelow b (now indices) (plan .n + 1) count × Sane (plan .channels) (now pool) (now indices) (plan .n + 1) count × (length (now born) ≡ 3 * losingBalls) × (plan .range ≡ rangeBox (task (now run) plan)) ⌝ }
     ensures { λ r. ⌜ Joins (now (run .entry)) plan (now (floats .entry)) (now (pool .entry)) (now (pool .exit)) (now (indices .entry)) (now (indices .exit)) count b r ⌝ }
 {
     let channels = plan.channels;

@@ -3,11 +3,12 @@ ghost use mathlib.Core.Path.{_≡_};
 ghost use Prim.Native.Nat.{ℕ, _+_, _-_, _*_, _≤_, _<_};
 ghost use lib.ListN.{length, getD};
 ghost use lib.Ieee.{nan};
+ghost use Rattle.refusals.specs.Limits.{maxReadings};
 ghost use Rattle.floats.specs.Numbers.{_-ᶠ_, _/ᶠ_, ofWhole};
 ghost use Rattle.areas.specs.Parts.{part};
 ghost use Rattle.sums.specs.EachChannel.{Sums};
 ghost use Rattle.search_rules.specs.Functional.{facing, besides, centreAlong};
-ghost use Rattle.functional.specs.Held.{Room, task, putFacing, AllBelow, Mapped};
+ghost use Rattle.functional.specs.Inner.Held.{Room, task, putFacing, AllBelow, Mapped};
 use crate::Plan;
 use crate::slots::float_at;
 use crate::slots::index_at;
@@ -17,14 +18,17 @@ use costs::cost_of;
 use search_rules::Facing;
 use search_rules::slack_of;
 
+// The mean of the readings from index `a` up to `b`, less the channel's mean, of the channel whose sums
+// stand at `place` of `floats`.
 fn mean_between(floats: &[f64], place: usize, a: usize, b: usize) -> f64
-    requires { ⌜ (a < b) × (b ≤ 4096) × (place + b < length (now floats)) ⌝ }
+    requires { ⌜ (a < b) × (b ≤ maxReadings) × (place + b < length (now floats)) ⌝ }
     ensures { λ r. ⌜ r ≡ (getD (now (floats .entry)) (place + b) nan -ᶠ getD (now (floats .entry)) (place + a) nan) /ᶠ ofWhole (b - a) ⌝ }
 {
     (float_at(floats, place + b) - float_at(floats, place + a)) / (((b - a) as u32) as f64)
 }
 
-// The mean along the second channel; 0 where there is none.
+// The mean from `a` up to `b` along the second channel; 0 where there is none. The readings go along for
+// the contract alone.
 fn second_mean(run: &[f64], floats: &[f64], plan: Plan, a: usize, b: usize) -> f64
     requires { ⌜ (a < b) × (b ≤ plan .n) × Sums (now run) (plan .n) (plan .channels) (now floats) × ((li : ℕ) × (lp : ℕ) × Room plan (length (now floats)) li lp) ⌝ }
     ensures { λ r. ⌜ r ≡ besides (task (now (run .entry)) plan) (centreAlong (task (now (run .entry)) plan) 1 a b) ⌝ }
@@ -35,7 +39,8 @@ fn second_mean(run: &[f64], floats: &[f64], plan: Plan, a: usize, b: usize) -> f
     mean_between(floats, 2 * (plan.n + 1), a, b)
 }
 
-// What b means to the candidate a. The readings go along for the contract alone.
+// What `b` means to the candidate `a`: the centre of the two balls, and the squares of their radii. The
+// readings go along for the contract alone.
 fn face(run: &[f64], floats: &[f64], plan: Plan, a: usize, b: usize) -> Facing
     requires { ⌜ (a < b) × (b ≤ plan .n) × Sums (now run) (plan .n) (plan .channels) (now floats) × ((li : ℕ) × (lp : ℕ) × Room plan (length (now floats)) li lp) ⌝ }
     ensures { λ r. ⌜ r ≡ facing (task (now (run .entry)) plan) (part (now (floats .entry)) (plan .f) (plan .n + 1)) a b ⌝ }
@@ -57,7 +62,8 @@ fn face(run: &[f64], floats: &[f64], plan: Plan, a: usize, b: usize) -> Facing
     }
 }
 
-// The ball of each living candidate against b, in its slot. Cost: one turn for each candidate.
+// Puts into the slot of each of the `count` living candidates what `b` means to it. Cost: one turn for
+// each candidate.
 pub(crate) fn face_all(
     run: &[f64],
     floats: &[f64],

@@ -1,15 +1,18 @@
-// The balls where the new candidate loses.
+// The balls in which the new candidate loses.
 ghost use mathlib.Core.Path.{_≡_};
 ghost use Prim.Native.Nat.{_+_, _*_, _≤_};
 ghost use lib.ListN.{length};
+ghost use Rattle.search_rules.specs.Limits.{slotFloats};
+ghost use Rattle.refusals.specs.Limits.{maxReadings};
+ghost use Rattle.candidate_balls.specs.Losing.{losingBalls};
 ghost use Rattle.search_rules.specs.Functional.{innerBall};
-ghost use Rattle.functional.specs.Held.{slotAt, facingAt, Balls, lostBy};
+ghost use Rattle.functional.specs.Inner.Held.{slotAt, facingAt, Balls, lostBy};
 use crate::slots::facing_at;
-use candidate::Ball;
+use candidate_balls::Ball;
+use candidate_balls::lose_inside;
 use search_rules::Facing;
-use standing::lose_inside;
 
-// The narrower ball; on one channel its second number is 0.
+// The narrower of the two balls of `x`; on one channel the second number of its centre is 0.
 fn inner_ball(x: Facing) -> Ball
     ensures { λ r. ⌜ r ≡ innerBall x ⌝ }
 {
@@ -19,10 +22,10 @@ fn inner_ball(x: Facing) -> Ball
     }
 }
 
-// The balls of so many rivals, as they stand in their slots, into the front of an area: how many are
-// kept. Cost: one turn for each rival.
+// Gathers at the front of `born` the balls in which the new candidate loses to the `count` living ones,
+// as these are faced in their slots, and says how many are kept. Cost: one turn for each of them.
 pub(crate) fn lose_all(channels: usize, pool: &[f64], born: &mut [f64], count: usize) -> usize
-    requires { ⌜ (200 * count ≤ length (now pool)) × (count ≤ 4097) × (length (now born) ≡ 192) ⌝ }
+    requires { ⌜ (slotFloats * count ≤ length (now pool)) × (count ≤ maxReadings + 1) × (length (now born) ≡ 3 * losingBalls) ⌝ }
     ensures { λ r. ⌜ Balls channels (now (born .exit)) r (lostBy channels (λ j. innerBall (facingAt (slotAt (now (pool .entry)) j))) count) ⌝ }
 {
     let mut balls = 0;

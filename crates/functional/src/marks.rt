@@ -1,15 +1,16 @@
-// The word that a candidate has beside its place: the number of its balls, and 128 more, its mark, where
-// they are known to cut nothing from its box. Its balls never change, so that it stays known as long as
-// the box does not change, and they need not be gone through.
+// The word that a candidate has beside its index: the number of its balls, and 128 more, its mark,
+// where they are known to cut nothing from its box. Its balls never change, so that this stays known as
+// long as the box does not change, and they need not be gone through.
 ghost use mathlib.Core.Path.{_≡_};
 ghost use mathlib.Core.Bool.{true, cond};
-ghost use Prim.Native.Nat.{_+_, _≤_};
-ghost use Rattle.functional.specs.Held.{ballsIn, SameBox};
+ghost use Prim.Native.Nat.{_+_, _≤_, _*_};
+ghost use Rattle.candidate_balls.specs.Losing.{losingBalls};
+ghost use Rattle.functional.specs.Inner.Held.{ballsIn, SameBox};
 use crate::MARK;
 use candidate::Candidate;
-use floats::to_bits;
 
-// The word of a candidate whose box was narrowed: its mark is kept where the box stayed.
+// The word of a candidate whose box was narrowed and whose word was `word`: its mark is kept where the
+// box `stayed` as it was.
 pub(crate) fn remarked(word: usize, stayed: bool) -> usize
     ensures { λ r. ⌜ r ≡ cond stayed word (ballsIn word) ⌝ }
 {
@@ -19,10 +20,10 @@ pub(crate) fn remarked(word: usize, stayed: bool) -> usize
     word % MARK
 }
 
-// The word of a candidate with so many balls: marked where they cut nothing from its box.
+// The word of a candidate with `balls` balls: marked where its box is `uncut` by them.
 pub(crate) fn marked(balls: usize, uncut: bool) -> usize
-    requires { ⌜ balls ≤ 64 ⌝ }
-    ensures { λ r. ⌜ r ≡ cond uncut (balls + 128) balls ⌝ }
+    requires { ⌜ balls ≤ losingBalls ⌝ }
+    ensures { λ r. ⌜ r ≡ cond uncut (balls + 2 * losingBalls) balls ⌝ }
 {
     if uncut {
         return balls + MARK;
@@ -30,13 +31,18 @@ pub(crate) fn marked(balls: usize, uncut: bool) -> usize
     balls
 }
 
-// To the bit: zeros of either sign differ. NaN counts as one value.
+// Whether `a` and `b` are the same to the bit: zeros of either sign differ, and NaN is like nothing. No
+// bit pattern is asked of a NaN.
 fn same_number(a: f64, b: f64) -> bool
     ensures { λ r. ⌜ (r ≡ true → a ≡ b) ⌝ }
 {
-    to_bits(a) == to_bits(b)
+    if a == b {
+        return f64::to_bits(a) == f64::to_bits(b);
+    }
+    false
 }
 
+// Whether the boxes `a` and `b` have the same numbers.
 pub(crate) fn same_box(a: Candidate, b: Candidate) -> bool
     ensures { λ r. ⌜ (r ≡ true → SameBox a b) ⌝ }
 {

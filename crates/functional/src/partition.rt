@@ -3,31 +3,31 @@ ghost use mathlib.Core.Path.{_≡_};
 ghost use mathlib.Core.Bool.{true, cond};
 ghost use Prim.Native.Nat.{_+_, _*_, _/_, _≤_};
 ghost use lib.ListN.{length};
+ghost use Rattle.search_rules.specs.Limits.{functionalChannels, slotFloats};
+ghost use Rattle.sums.specs.EachChannel.{Sums};
 ghost use Rattle.search_rules.specs.Room.{searchFits};
 ghost use Rattle.search_rules.specs.Functional.{rangeBox};
 ghost use Rattle.search_rules.specs.Partitioned.{fitsTask, Partitioned};
-ghost use Rattle.functional.specs.Held.{Room, task, Holds, Ran};
+ghost use Rattle.functional.specs.Inner.Held.{Room, task, Holds, Ran};
 use crate::FUNCTIONAL_MAX_CHANNELS;
 use crate::Plan;
-use crate::SLOT;
-use crate::boxes::range_box;
+use crate::SLOT_FLOATS;
+use crate::channels::sum_channels;
 use crate::slots::put_box;
 use crate::steps::search;
 use areas::clear_floats;
 use areas::clear_indices;
 use candidate::Candidate;
 use search_rules::search_fits;
-use sums::channel_sums;
 
-// The areas as the first step wants them: the sums, F(0), no predecessor, and the candidate 0 with the
-// whole range and no balls.
+// The areas as the first step wants them: the sums, which `floats` has already, F(0), no predecessor,
+// and the candidate 0 with the whole range and no balls. The readings go along for the contract alone.
 fn begin(run: &[f64], floats: &mut [f64], indices: &mut [usize], pool: &mut [f64], plan: Plan)
-    requires { ⌜ Room plan (length (now floats)) (length (now indices)) (length (now pool)) × (plan .channels * plan .n ≤ length (now run)) × (1 ≤ plan .slots) × (plan .range ≡ rangeBox (task (now run) plan)) ⌝ }
+    requires { ⌜ Room plan (length (now floats)) (length (now indices)) (length (now pool)) × Sums (now run) (plan .n) (plan .channels) (now floats) × (1 ≤ plan .slots) × (plan .range ≡ rangeBox (task (now run) plan)) ⌝ }
     ensures { λ r. ⌜ Holds (now (run .entry)) plan (now (floats .exit)) (now (indices .exit)) (now (pool .exit)) 1 (plan .m) ⌝ }
 {
     let f = plan.f;
     let w = plan.n + 1;
-    channel_sums(run, plan.n, plan.channels, floats);
     clear_floats(floats, f, w);
     floats[f] = -plan.penalty;
     clear_indices(indices, 0, w);
@@ -37,7 +37,7 @@ fn begin(run: &[f64], floats: &mut [f64], indices: &mut [usize], pool: &mut [f64
     put_box(pool, 0, range);
 }
 
-// All of it, before anything is cleared: whether the slots sufficed.
+// The whole search, before anything is cleared; says whether the slots sufficed.
 fn search_all(
     penalty: f64,
     run: &[f64],
@@ -48,10 +48,10 @@ fn search_all(
     indices: &mut [usize],
     pool: &mut [f64],
 ) -> bool
-    requires { ⌜ (1 ≤ channels) × (channels ≤ 2) × (searchFits (length (now run)) n channels m (length (now floats)) (length (now indices)) ≡ true) ⌝ }
-    ensures { λ r. ⌜ Ran (record { run = now (run .entry); n = n; channels = channels; m = m; penalty = penalty }) (length (now (pool .entry)) / 200) (now (indices .exit)) r ⌝ }
+    requires { ⌜ (1 ≤ channels) × (channels ≤ functionalChannels) × (searchFits (length (now run)) n channels m (length (now floats)) (length (now indices)) ≡ true) ⌝ }
+    ensures { λ r. ⌜ Ran (record { run = now (run .entry); n = n; channels = channels; m = m; penalty = penalty }) (length (now (pool .entry)) / slotFloats) (now (indices .exit)) r ⌝ }
 {
-    let slots = pool.len() / SLOT;
+    let slots = pool.len() / SLOT_FLOATS;
     if slots < 1 {
         return false;
     }
@@ -62,14 +62,15 @@ fn search_all(
         channels,
         f: channels * (2 * (n + 1)),
         slots,
-        range: range_box(run, n, channels),
+        range: sum_channels(run, n, channels, floats),
     };
     begin(run, floats, indices, pool, plan);
     let mut born = [0.0; Candidate::BALLS];
     search(run, floats, indices, pool, &mut born, plan)
 }
 
-// From where on the indices are cleared: behind the predecessors, or all where there are none.
+// The index at which the clearing of the indices begins: `w`, behind the predecessors, where the search
+// is `done`, and otherwise 0.
 fn kept_front(done: bool, w: usize) -> usize
     ensures { λ r. ⌜ r ≡ cond done w 0 ⌝ }
 {
@@ -79,6 +80,8 @@ fn kept_front(done: bool, w: usize) -> usize
     0
 }
 
+// Whether the search is one of one or two channels that fits: a run of `run` readings, areas of `floats`
+// floats and `indices` indices.
 fn task_fits(run: usize, n: usize, channels: usize, m: usize, floats: usize, indices: usize) -> bool
     ensures { λ r. ⌜ r ≡ fitsTask run n channels m floats indices ⌝ }
 {
@@ -90,9 +93,10 @@ fn task_fits(run: usize, n: usize, channels: usize, m: usize, floats: usize, ind
     false
 }
 
-// The predecessors of 0 to n by the functional search, at the front of the indices, and whether the
-// pool had slots enough; every other lent place is zero afterwards, and where the slots were too few
-// all of them. Nothing is changed where the search does not fit.
+// Searches `run`, of `channels` channels with `n` readings each, for pieces of at least `m` readings.
+// Writes the predecessors of 0 to `n` at the front of `indices`, and says whether `pool` had slots
+// enough; everything else in the lent areas is zero afterwards, and the predecessors too where the slots
+// were too few. Nothing is changed where the search does not fit.
 pub fn partition_functional(
     penalty: f64,
     run: &[f64],

@@ -4,12 +4,13 @@ ghost use mathlib.Core.Bool.{true};
 ghost use Prim.Native.Nat.{ℕ, _+_, _*_, _≤_, _<_};
 ghost use lib.ListN.{length, getD};
 ghost use lib.Ieee.{nan};
+ghost use Rattle.candidate_balls.specs.Losing.{losingBalls};
 ghost use Rattle.floats.specs.Numbers.{_+ᶠ_};
 ghost use Rattle.areas.specs.Parts.{part};
 ghost use Rattle.sums.specs.EachChannel.{Sums};
 ghost use Rattle.search_rules.specs.Minimum.{scanTo};
 ghost use Rattle.search_rules.specs.Functional.{price};
-ghost use Rattle.functional.specs.Held.{Room, task, taus, AllBelow, Holds, Stepped, Searched};
+ghost use Rattle.functional.specs.Inner.Held.{Room, task, taus, AllBelow, Holds, Stepped, Searched};
 use crate::Plan;
 use crate::birth::birth;
 use crate::slots::float_at;
@@ -20,7 +21,8 @@ use search_rules::Best;
 use search_rules::better;
 use search_rules::none_yet;
 
-// F(tau), the cost from tau to t, and the penalty. The readings go along for the contract alone.
+// The total by which `tau` is the last cut before `t`: F(tau), the cost from `tau` to `t`, and the
+// penalty. The readings go along for the contract alone.
 fn total_of(run: &[f64], floats: &[f64], plan: Plan, tau: usize, t: usize) -> f64
     requires { ⌜ (tau < t) × (t ≤ plan .n) × Sums (now run) (plan .n) (plan .channels) (now floats) × ((li : ℕ) × (lp : ℕ) × Room plan (length (now floats)) li lp) ⌝ }
     ensures { λ r. ⌜ r ≡ getD (part (now (floats .entry)) (plan .f) (plan .n + 1)) tau nan +ᶠ price (task (now (run .entry)) plan) tau t +ᶠ plan .penalty ⌝ }
@@ -31,7 +33,7 @@ fn total_of(run: &[f64], floats: &[f64], plan: Plan, tau: usize, t: usize) -> f6
         + plan.penalty
 }
 
-// The best of the living candidates at t. Cost: one turn for each.
+// The best of the `count` living candidates at `t`. Cost: one turn for each.
 fn best_of(
     run: &[f64],
     floats: &[f64],
@@ -55,7 +57,7 @@ fn best_of(
     best
 }
 
-// The step at t: how many candidates live after it.
+// The step at `t`, with `count` living candidates; says how many live after it.
 fn step(
     run: &[f64],
     floats: &mut [f64],
@@ -66,7 +68,7 @@ fn step(
     count: usize,
     t: usize,
 ) -> usize
-    requires { ⌜ Holds (now run) plan (now floats) (now indices) (now pool) count t × (t ≤ plan .n) × (length (now born) ≡ 192) ⌝ }
+    requires { ⌜ Holds (now run) plan (now floats) (now indices) (now pool) count t × (t ≤ plan .n) × (length (now born) ≡ 3 * losingBalls) ⌝ }
     ensures { λ r. ⌜ Stepped (now (run .entry)) plan (now (floats .exit)) (now (indices .exit)) (now (pool .exit)) t r ⌝ }
 {
     let best = best_of(run, floats, indices, plan, count, t);
@@ -81,8 +83,8 @@ fn step(
     birth(run, floats, indices, pool, born, plan, count, b)
 }
 
-// Every step from t = m to n, until there are more candidates than slots: whether there never were.
-// `born` is where a new candidate's balls are gathered. Cost: one step for each t.
+// Every step from t = m to n, until there are more candidates than slots; says whether there never were.
+// The balls of a new candidate are gathered in `born`. Cost: one step for each t.
 pub(crate) fn search(
     run: &[f64],
     floats: &mut [f64],
@@ -91,7 +93,7 @@ pub(crate) fn search(
     born: &mut [f64],
     plan: Plan,
 ) -> bool
-    requires { ⌜ Holds (now run) plan (now floats) (now indices) (now pool) 1 (plan .m) × (length (now born) ≡ 192) ⌝ }
+    requires { ⌜ Holds (now run) plan (now floats) (now indices) (now pool) 1 (plan .m) × (length (now born) ≡ 3 * losingBalls) ⌝ }
     ensures { λ r. ⌜ Searched (now (run .entry)) plan (now (floats .exit)) (now (indices .exit)) (now (pool .exit)) r ⌝ }
 {
     let n = plan.n;

@@ -1,4 +1,4 @@
--- How the areas begin: the running sums stand by index in every run, and the candidate 0 with F(0) at the front. Assumes nothing.
+-- How the areas begin: the running sums stand by index in every part, and the candidate 0 with F(0) at the front. Assumes nothing.
 use Prim.Native.Nat.{ℕ, zero, suc, _+_, _-_, _*_, _/_, _%_, _≤_, _<_}
 use mathlib.Core.Path.{_≡_, refl, sym, ap, _∙_}
 use mathlib.Core.List.{List, [], _∷_, _++_}
@@ -18,10 +18,10 @@ use Rattle.sums.specs.EachChannel.{Sums, RanEach}
 use Rattle.sums.proofs.ChannelLaws.{fits, mul-more, mul-room}
 use Rattle.search_rules.specs.Inequality.{stateAfter}
 use Rattle.inequality.specs.declared.Plan.{Plan}
-use Rattle.inequality.specs.Held.{Room, runOf, Holds}
+use Rattle.inequality.specs.Inner.Held.{Room, runOf, Holds}
 use Rattle.inequality.proofs.WeightLaws.{twice}
 
--- ---- every run by index
+-- ---- every part by index
 run-held : {run : List Float} {n k : ℕ} {area : List Float} (r i : ℕ) → Sums run n k area → r < 2 * k → i ≤ n → getD area (r * (n + 1) + i) nan ≡ runOf run n r i
 unfolding runOf
 run-held {run} {n} {k} {area} r i s h l = go (r % 2) refl
@@ -52,7 +52,7 @@ empty-part : (l : List ℕ) (b : ℕ) (rest : List ℕ) → part l b 0 ++ rest �
 unfolding part
 empty-part l b rest = refl
 
--- of the one candidate
+-- what holds of the one candidate, 0, holds of each
 only : (P : ℕ → ℕ → Type 0) → P 0 0 → (j : ℕ) → j < length {A = ℕ} (0 ∷ []) → P j (getD {A = ℕ} (0 ∷ []) j 0)
 only P p zero l = p
 only P p (suc j) l = absurd (not-suc-le-zero (le-of-suc-le-suc l))

@@ -10,7 +10,7 @@ use lib.ListN.{length, getD, length-append, List·getD-append}
 use lib.Seq.{getD-at}
 use Rattle.search_rules.specs.Minimum.{keptTo}
 use Rattle.search_rules.proofs.All.{All, none, all-at, all-last}
-use Rattle.inequality.specs.Held.{AllBelow, Rising}
+use Rattle.inequality.specs.Inner.Held.{AllBelow, Rising}
 
 -- ---- what holds of the first j holds of those of them that stay
 kept-first : (P : ℕ → Type 0) (stays : ℕ → Bool) (cs : List ℕ) (j : ℕ) → ((i : ℕ) → i < j → P (getD cs i 0)) → All P (keptTo stays cs j)
@@ -61,7 +61,7 @@ below-next stays cs t b =
     let all : All (λ x. x < t + 1) (keptTo stays cs (length cs) ++ (t ∷ [])) = all-last (kept-first (λ x. x < t + 1) stays cs (length cs) (λ i h. let l = b .below i h in omega arith)) (omega arith) in
     record { below = λ j h. all-at j all h }
 
--- what holds of those that stay and of t, place by place
+-- what holds of each number of `l` by its index, and of `t` behind them, holds of the list of both
 pub next-at : (P : ℕ → ℕ → Type 0) (l : List ℕ) (t : ℕ) → ((j : ℕ) → j < length l → P j (getD l j 0)) → P (length l) t → (j : ℕ) → j < length (l ++ (t ∷ [])) → P j (getD (l ++ (t ∷ [])) j 0)
 next-at P l t f p j h =
     ⊎-elim

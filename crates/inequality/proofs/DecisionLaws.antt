@@ -1,4 +1,4 @@
--- What is held beside the candidates decides as the recurrence does: costs by the runs, parts, the best, and those that stay. Assumes nothing.
+-- What the areas hold of the candidates decides as the recurrence does: costs by the sums, weights, the best, and those that stay. Assumes nothing.
 use Prim.Native.Nat.{ℕ, zero, suc, _+_, _-_, _*_, _/_, _%_, _≤_, _<_}
 use mathlib.Core.Bool.{Bool, true, false, cond}
 use mathlib.Core.Path.{_≡_, refl, sym, ap, ap₂, _∙_}
@@ -17,12 +17,12 @@ use Rattle.costs.specs.Costs.{segmentOf, segmentAbout, costOf, costTo}
 use Rattle.search_rules.specs.Minimum.{scanTo, keptTo}
 use Rattle.search_rules.specs.Inequality.{State, oldEnough, partOf, bestAt, price}
 use Rattle.inequality.specs.declared.Plan.{Plan}
-use Rattle.inequality.specs.Held.{planned, runOf, Runs}
-use Rattle.inequality.specs.Weights.{Parted, Written, segmentBy, costBy, weightBy, lowestBy}
-use Rattle.inequality.specs.Staying.{stays, keptBy}
+use Rattle.inequality.specs.Inner.Held.{planned, runOf, Runs}
+use Rattle.inequality.specs.Inner.Weights.{Parted, Written, segmentBy, costBy, weightBy, lowestBy}
+use Rattle.inequality.specs.Inner.Staying.{stays, keptBy}
 use Rattle.inequality.proofs.WrittenLaws.{written-at}
 
--- ---- the runs of a channel
+-- ---- the parts of a channel
 sums-run : (run : List Float) (n c i : ℕ) → runOf run n (2 * c) i ≡ centredTo (channelOf run n c) (meanOf (channelOf run n c)) i
 unfolding runOf
 sums-run run n c i =
@@ -55,7 +55,7 @@ unfolding costBy costTo
 cost-of run q xs cs f t j zero r h l g = refl
 cost-of run q xs cs f t j (suc c) r h l g = ap₂ _+ᶠ_ (cost-of run q xs cs f t j c r h l (omega arith)) (ap (costOf (q .cost)) (segment-of run q xs cs f t j c r h l g))
 
--- ---- a part
+-- ---- a weight
 pub part-of : (run : List Float) (q : Plan) (xs ys : List Float) (ix : List ℕ) (cs : List ℕ) (f : List Float) (t old j : ℕ) → Runs run q xs cs f t → t ≤ q .n → Parted (q .m) t cs old
     → Written xs ys (q .p) (weightBy q xs ix old t) (length cs) → ((i : ℕ) → i < length cs → getD ix (q .c + i) 0 ≡ getD cs i 0) → j < length cs
     → getD ys (q .p + j) nan ≡ partOf (planned run q) (q .m) f t (getD cs j 0)
@@ -109,7 +109,7 @@ map-last : (g : ℕ → Float) (l : List ℕ) (x : ℕ) → map g (l ++ (x ∷ [
 map-last g [] x = refl
 map-last g (y ∷ l) x = ap (λ (r : List Float). g y ∷ r) (map-last g l x)
 
--- what a run holds of those that stay is what it held of them
+-- what a part holds of those that stay is what it held of them
 kept-map : (bound : Float) (ys : List Float) (p : ℕ) (g : ℕ → Float) (values : List Float) (a : ℕ) (ix : List ℕ) (b j : ℕ) → ((i : ℕ) → i < j → getD values (a + i) nan ≡ g (getD ix (b + i) 0))
     → keptBy bound ys p nan values a j ≡ map g (keptBy bound ys p 0 ix b j)
 unfolding keptBy

@@ -1,4 +1,4 @@
--- Laws of the candidates that stay: those before a place all stay, one more is looked at, and run after run of the floats. Assumes nothing.
+-- Laws of the candidates that stay: the first all stay, one more is looked at, and part after part of the floats. Assumes nothing.
 use Prim.Native.Nat.{ℕ, zero, suc, _+_, _-_, _*_, _≤_, _<_}
 use mathlib.Core.Path.{_≡_, refl, sym, ap, _∙_, subst}
 use mathlib.Core.Bool.{Bool, true, false, _&&_, false≢true}
@@ -10,39 +10,36 @@ use native.Mathlib.Numerals.{add-one}
 use lib.ListN.{length, getD, set}
 use lib.Seq.{getD-set-other, getD-set-same}
 use lib.Ieee.{Float, nan}
+use Rattle.logic.proofs.Laws.{both}
 use Rattle.floats.specs.Numbers.{_<ᶠ_}
 use Rattle.areas.specs.Parts.{part, Frame}
 use Rattle.areas.proofs.PartLaws.{part-suc, part-front, part-above, push, frame-refl, frame-set, frame-wide, frame-trans}
 use Rattle.sums.proofs.ChannelLaws.{mul-more, mul-room}
 use Rattle.inequality.specs.declared.Plan.{Plan}
-use Rattle.inequality.specs.Held.{Room}
-use Rattle.inequality.specs.Staying.{stays, Staying, Leaving, stayCount, keptBy, Retained, RetainedRuns, Joined}
+use Rattle.inequality.specs.Inner.Held.{Room}
+use Rattle.inequality.specs.Inner.Staying.{stays, Staying, Leaving, stayCount, keptBy, Retained, RetainedRuns, Joined}
 use Rattle.inequality.proofs.WrittenLaws.{at-front, at-back}
 
--- ---- the runs of the sums, and F's with them, end before the parts
+-- ---- the parts of the sums, and F's with them, end where the weights begin
 pub runs-end : (q : Plan) (lf li : ℕ) → Room q lf li → (2 * q .channels + 1) * (q .n + 1) ≡ q .p
 runs-end q lf li room = mul-more (2 * q .channels) (q .n + 1) ∙ (rw (room .p, room .f) refl)
 
 pub run-room : (q : Plan) (lf li r : ℕ) → Room q lf li → r < 2 * q .channels + 1 → r * (q .n + 1) + (q .n + 1) ≤ q .p
 run-room q lf li r room h = omega (arith, mul-room r (2 * q .channels + 1) (q .n + 1) h, runs-end q lf li room)
 
--- ---- all stay up to a place
+-- ---- the first candidates all stay
 pub staying-none : (bound : Float) (xs : List Float) (p : ℕ) → Staying bound xs p 0
 staying-none bound xs p = record { stay = λ i h. absurd (not-suc-le-zero h) }
 
 pub staying-more : {bound : Float} {xs : List Float} {p j : ℕ} (i : ℕ) → Staying bound xs p j → i ≡ p + j → (getD xs i nan <ᶠ bound) ≡ true → Staying bound xs p (j + 1)
 staying-more {bound} {xs} {p} {j} i s e h = record { stay = λ k l. ⊎-elim (λ q. ap (λ (n : ℕ). getD xs n nan <ᶠ bound) (ap (λ (n : ℕ). p + n) q ∙ sym e) ∙ h) (λ l. s .stay k l) (eq-or-lt-of-le (le-of-suc-le-suc (rw add-one at l))) }
 
-both-of : (a b : Bool) → (a && b) ≡ true → (a ≡ true) × (b ≡ true)
-both-of true b e = (refl, e)
-both-of false b e = absurd (false≢true e)
-
 pub staying-four : {bound : Float} {xs : List Float} {p j : ℕ} (i : ℕ) → Staying bound xs p j → i ≡ p + j
     → (((getD xs i nan <ᶠ bound && getD xs (i + 1) nan <ᶠ bound) && getD xs (i + 2) nan <ᶠ bound) && getD xs (i + 3) nan <ᶠ bound) ≡ true → Staying bound xs p (j + 4)
 staying-four {bound} {xs} {p} {j} i s e h =
-    let three = both-of _ _ h in
-    let two = both-of _ _ (three .0) in
-    let one = both-of _ _ (two .0) in
+    let three = both _ _ h in
+    let two = both _ _ (three .0) in
+    let one = both _ _ (two .0) in
     let first = staying-more i s e (one .0) in
     let second = staying-more (i + 1) first (omega arith) (one .1) in
     let third = staying-more (i + 2) second (omega arith) (two .1) in
@@ -64,7 +61,7 @@ unfolding stayCount
 count-front bound xs p zero s = refl
 count-front bound xs p (suc i) s = rw (s .stay i (omega arith)) (ap suc (count-front bound xs p i (record { stay = λ k l. s .stay k (omega arith) })))
 
--- ---- values whose parts are below the bound
+-- ---- values whose candidates stay
 module _ {A : Type 0} (bound : Float) (xs : List Float) (p : ℕ) (d : A) where
   kept-yes : (values : List A) (b i : ℕ) → stays bound xs p i ≡ true → keptBy bound xs p d values b (i + 1) ≡ keptBy bound xs p d values b i ++ (getD values (b + i) d ∷ [])
   unfolding keptBy
@@ -85,7 +82,7 @@ module _ {A : Type 0} (bound : Float) (xs : List Float) (p : ℕ) (d : A) where
   retained-from values b count i s h l =
       record { many = count-front bound xs p i s; few = omega arith; front = kept-front values b i s (omega arith); rest = λ j g k. refl; frame = frame-refl values b count }
 
-  -- the value at i goes, and nothing is stored
+  -- the value `i` goes, and nothing is stored
   retained-past : (values ys : List A) (b count i kept : ℕ) → Retained bound xs p d values ys b count i kept → stays bound xs p i ≡ false → Retained bound xs p d values ys b count (i + 1) kept
   retained-past values ys b count i kept r e =
       let few = r .few in
@@ -109,14 +106,14 @@ module _ {A : Type 0} (bound : Float) (xs : List Float) (p : ℕ) (d : A) where
       more : (i k : ℕ) → i + k + 1 ≡ i + suc k
       more i k = omega arith
 
-  -- the first i stay and those after them up to j go
+  -- the first `i` stay and those behind them up to `j` go
   pub retained-leaving : (values : List A) (b count i j : ℕ) → Staying bound xs p i → Leaving bound xs p i j → i ≤ j → j ≤ count → b + count ≤ length values → Retained bound xs p d values values b count j i
   retained-leaving values b count i j s g o h l =
       let e : i + (j - i) ≡ j = omega arith in
       subst (λ (k : ℕ). Retained bound xs p d values values b count k i) e
       (past (j - i) values b count i s (omega (arith, e)) l (record { leave = λ k a z. g .leave k a (omega (arith, e)) }))
 
-  -- the value at i has been stored behind those that stay
+  -- the value `i` has been stored behind those that stay
   pub retained-yes : (values ys : List A) (b count i kept k : ℕ) (v : A) → Retained bound xs p d values ys b count i kept → b + count ≤ length ys → i < count
       → stays bound xs p i ≡ true → v ≡ getD ys (b + i) d → k ≡ b + kept
       → Retained bound xs p d values (set ys k v) b count (i + 1) (kept + 1)
@@ -146,7 +143,7 @@ module _ {A : Type 0} (bound : Float) (xs : List Float) (p : ℕ) (d : A) where
   pub retained-all : (values ys : List A) (b count i j kept : ℕ) → i ≡ j → Retained bound xs p d values ys b count i kept → Retained bound xs p d values ys b count j kept
   retained-all values ys b count i j kept e r = subst (λ (k : ℕ). Retained bound xs p d values ys b count k kept) e r
 
--- the same parts and the same values leave the same
+-- the same weights and the same values keep the same
 kept-same : {A : Type 0} (bound : Float) (xs ys : List Float) (p : ℕ) (d : A) (us vs : List A) (b j : ℕ) → ((i : ℕ) → i < j → getD ys (p + i) nan ≡ getD xs (p + i) nan)
     → ((i : ℕ) → i < j → getD vs (b + i) d ≡ getD us (b + i) d) → keptBy bound ys p d vs b j ≡ keptBy bound xs p d us b j
 unfolding keptBy
@@ -188,7 +185,7 @@ leaving-kept {bound} {xs} {ys} {p} g e = record { leave = λ i a h. rw (e i h) (
 pub staying-kept : {bound : Float} {xs ys : List Float} {p j : ℕ} → Staying bound xs p j → ((i : ℕ) → i < j → getD ys (p + i) nan ≡ getD xs (p + i) nan) → Staying bound ys p j
 staying-kept {bound} {xs} {ys} {p} s e = record { stay = λ i h. rw (e i h) (s .stay i h) }
 
--- ---- run after run
+-- ---- part after part
 pub runs-none : (bound : Float) (q : Plan) (xs : List Float) (count : ℕ) → RetainedRuns bound q xs xs count 0
 runs-none bound q xs count = record { front = λ r h. absurd (not-suc-le-zero h); rest = λ r i h l g. absurd (not-suc-le-zero h); frame = frame-refl xs 0 _ }
 
@@ -225,7 +222,7 @@ runs-same bound q xs count runs s few room =
       frame = frame-refl xs 0 _;
     }
 
--- ---- what belongs to t, run after run
+-- ---- what belongs to `t`, part after part
 pub joined-none : (q : Plan) (xs : List Float) (place t : ℕ) → Joined q xs xs place t 0
 joined-none q xs place t = record { here = λ r h. absurd (not-suc-le-zero h); rest = λ r i h l g. absurd (not-suc-le-zero h); frame = frame-refl xs 0 _ }
 

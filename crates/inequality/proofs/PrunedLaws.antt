@@ -1,4 +1,4 @@
--- Laws of the whole search: the plan's room, what is left where the search fits and where it does not, and that one outcome meets `Pruned`. Assumes nothing.
+-- Laws of the whole search: the plan's room, what is left where the search fits and where it does not, and that one outcome alone meets `Pruned`. Assumes nothing.
 use Prim.Native.Nat.{ℕ, _+_, _-_, _*_}
 use mathlib.Core.Bool.{Bool, true, false, true≢false}
 use mathlib.Core.Path.{_≡_, refl, sym, ap, _∙_}
@@ -16,7 +16,7 @@ use Rattle.search_rules.proofs.RoomLaws.{Series, Roomy, split-floats}
 use Rattle.search_rules.specs.Inequality.{predecessors}
 use Rattle.inequality.specs.declared.Plan.{Plan}
 use Rattle.inequality.specs.Pruned.{Pruned}
-use Rattle.inequality.specs.Held.{Room, planned, Holds}
+use Rattle.inequality.specs.Inner.Held.{Room, planned, Holds}
 use Rattle.inequality.proofs.WeightLaws.{twice}
 
 -- ---- the plan

@@ -1,4 +1,4 @@
--- Laws of a step over the lent areas: it makes the next state of the recurrence; and how the areas begin. Assumes nothing.
+-- Laws of a step over the lent areas: it makes the next state of the recurrence; and what the calls of a step ask. Assumes nothing.
 use Prim.Native.Nat.{ℕ, suc, _+_, _-_, _*_, _≤_, _<_}
 use mathlib.Core.Path.{_≡_, refl, sym, ap, _∙_, subst}
 use mathlib.Core.List.{List, [], _∷_, _++_}
@@ -15,15 +15,15 @@ use Rattle.search_rules.specs.declared.Best.{Best}
 use Rattle.search_rules.specs.Minimum.{keptTo}
 use Rattle.search_rules.specs.Inequality.{State, partOf, bestAt, staysAt, stepOf, stateAfter}
 use Rattle.inequality.specs.declared.Plan.{Plan}
-use Rattle.inequality.specs.Held.{Room, planned, runOf, AllBelow, Rising, Shown, Holds}
-use Rattle.inequality.specs.Weights.{Parted, Written, weightBy, lowestBy}
-use Rattle.inequality.specs.Staying.{stayCount, keptBy, Retained, RetainedRuns, Joined}
+use Rattle.inequality.specs.Inner.Held.{Room, planned, runOf, AllBelow, Rising, Shown, Holds}
+use Rattle.inequality.specs.Inner.Weights.{Parted, Written, weightBy, lowestBy}
+use Rattle.inequality.specs.Inner.Staying.{stayCount, keptBy, Retained, RetainedRuns, Joined}
 use Rattle.inequality.proofs.WrittenLaws.{at-front, at-back, written-all}
 use Rattle.inequality.proofs.KeepingLaws.{run-room}
 use Rattle.inequality.proofs.CandidateLaws.{kept-below, rising-next, below-next, next-at}
 use Rattle.inequality.proofs.DecisionLaws.{part-of, best-of, kept-is, kept-at}
 
--- ---- what a step has done: parts, the best, those that stay, and t behind them
+-- ---- what a step has done: the weights, the best, those that stay, and `t` behind them
 pub record Done (q : Plan) (xs x₁ x₂ x₃ : List Float) (ix ix₂ : List ℕ) (count t old kept : ℕ) (b : Best) : Type 0 where
   pub early : t ≤ q .n
   pub parted : Parted (q .m) t (part ix (q .c) count) old
@@ -37,7 +37,7 @@ module _ (run : List Float) (q : Plan) (xs x₁ x₂ x₃ : List Float) (ix ix�
   abbrev w : ℕ
   w = q .n + 1
 
-  -- those that stay
+  -- the candidates that stay
   abbrev news : List ℕ
   news = keptTo (staysAt (planned run q) (q .penalty) (q .m) t (s .f) (b .cost)) (s .candidates) (length (s .candidates))
 
@@ -83,7 +83,7 @@ module _ (run : List Float) (q : Plan) (xs x₁ x₂ x₃ : List Float) (ix ix�
   many-news : length news ≡ kept
   many-news = let room = h .room in ap length (sym front-news) ∙ part-length ix₂ (q .c) kept (omega (arith, long-indices, fewer, few, d .early))
 
-  -- what a run held of the candidates it holds of those that stay
+  -- what the part `r` held of the candidates it holds of those that stay
   kept-run : (r : ℕ) (g : ℕ → Float) → r < 2 * q .channels + 1 → ((i : ℕ) → i < length (s .candidates) → getD x₁ (r * w + i) nan ≡ g (getD (s .candidates) i 0))
       → (j : ℕ) → j < kept → getD x₂ (r * w + j) nan ≡ g (getD news j 0)
   kept-run r g l e j k =
@@ -92,7 +92,7 @@ module _ (run : List Float) (q : Plan) (xs x₁ x₂ x₃ : List Float) (ix ix�
       ∙ kept-at (b .cost +ᶠ q .penalty) x₁ (q .p) g x₁ (r * w) (set ix t (b .tau)) (q .c) count j (λ i m. e i (omega (arith, many)) ∙ ap g (sym (moved i (omega (arith, many))))) (rw kept-news (omega (arith, many-news)))
       ∙ ap (λ (c : List ℕ). g (getD c j 0)) kept-news
 
-  -- a place of the runs that nothing moved
+  -- an index of the parts where nothing moved
   unmoved : (r i : ℕ) → r < 2 * q .channels → count ≤ i → i ≤ q .n → i ≢ kept → getD x₃ (r * w + i) nan ≡ getD xs (r * w + i) nan
   unmoved r i l m n o =
       let room = h .room in

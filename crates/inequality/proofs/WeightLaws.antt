@@ -1,4 +1,4 @@
--- Laws of the parts: one channel's cost more, F in front, and the whole part of a candidate. Assumes nothing.
+-- Laws of the weights: one channel's cost more, F in front, and the whole weight of a candidate. Assumes nothing.
 use Prim.Native.Nat.{ℕ, zero, suc, _+_, _-_, _*_, _≤_, _<_}
 use mathlib.Core.Path.{_≡_, refl, sym, ap, ap₂, _∙_, subst}
 use mathlib.Core.Bool.{Bool, true, false, cond}
@@ -23,38 +23,38 @@ use Rattle.costs.specs.declared.CostFunction.the-variants.{L2, Normal}
 use Rattle.costs.specs.declared.Segment.{Segment}
 use Rattle.search_rules.specs.Inequality.{oldEnough}
 use Rattle.inequality.specs.declared.Plan.{Plan}
-use Rattle.inequality.specs.Held.{Room, AllBelow, Rising}
-use Rattle.inequality.specs.Weights.{Parted, Written, segmentBy, costBy, later, added, lengthBy, raised, varianceBy, weightBy}
+use Rattle.inequality.specs.Inner.Held.{Room, AllBelow, Rising}
+use Rattle.inequality.specs.Inner.Weights.{Parted, Written, segmentBy, costBy, later, added, lengthBy, raised, varianceBy, weightBy}
 use Rattle.inequality.proofs.WrittenLaws.{at-front, at-back, written-at, written-by}
 
--- ---- the candidate that was read at a place
+-- ---- the candidate that was read at the index `i`
 pub candidate-at : (ix : List ℕ) (b n j i tau : ℕ) → j < n → i ≡ b + j → tau ≡ getD ix i 0 → tau ≡ getD (part ix b n) j 0
 candidate-at ix b n j i tau h e q = q ∙ read ix b n j i 0 e h
 
 pub candidate-below : (t : ℕ) (ix : List ℕ) (b n j i tau : ℕ) → AllBelow t (part ix b n) → b + n ≤ length ix → j < n → i ≡ b + j → tau ≡ getD ix i 0 → tau < t
 candidate-below t ix b n j i tau p l h e q = rw (candidate-at ix b n j i tau h e q) (p .below j (rw (part-length ix b n l) h))
 
--- the first of them are below t too
+-- of candidates that are below `t` the first `m` are
 pub below-fewer : (t : ℕ) (ix : List ℕ) (b n m : ℕ) → m ≤ n → b + n ≤ length ix → AllBelow t (part ix b n) → AllBelow t (part ix b m)
 below-fewer t ix b n m h l p =
     record {
       below = λ j g. let k : j < m = rw (part-length ix b m (omega arith)) at g in subst (λ (x : ℕ). x < t) (sym (part-at ix b n j 0 (omega arith)) ∙ part-at ix b m j 0 k) (p .below j (rw (part-length ix b n l) (omega arith)));
     }
 
--- ---- a segment by the same runs
+-- ---- a segment by the same sums
 segment-same : (x y : List Float) (w place p n j tau t : ℕ) → Frame x y p n → place + w + t < p → place + w + j < p → segmentBy y w place j tau t ≡ segmentBy x w place j tau t
 unfolding segmentBy
 segment-same x y w place p n j tau t f h l =
     rw (at-front (place + t) nan f (omega arith), at-front (place + j) nan f (omega arith), at-front (place + w + t) nan f h, at-front (place + w + j) nan f l) refl
 
--- what is added is the same where only parts before its own were written
+-- what is added for the candidate `j` is the same where only the weights of earlier candidates were written
 added-same : (cost : CostFunction) (x y : List Float) (ix : List ℕ) (w place p c t j n : ℕ) → Frame x y p n → place + w + w ≤ p → t < w → j < w → n ≤ j
     → added cost y ix w place p c t 1 j ≡ added cost x ix w place p c t 1 j
 unfolding added later
 added-same cost x y ix w place p c t j n f h l g k =
     rw (at-back (p + j) nan f (omega arith), segment-same x y w place p n j (getD ix (c + j) 0) t f (omega arith) (omega arith)) refl
 
--- ---- a segment that was read of an area of which only parts before the candidate's own were written
+-- ---- a segment that was read in an area of which only the weights of earlier candidates were written
 pub segment-read : (x y : List Float) (w place p t j tau : ℕ) (g s q : Float) (r : Segment) → Frame x y p j → place + w + w ≤ p → t < w → j < w → g ≡ ofWhole (t - tau)
     → s ≡ getD x (place + t) nan → q ≡ getD x (place + w + t) nan
     → r ≡ record { length = g; sum = s -ᶠ getD y (place + j) nan; «sum_of_squares» = q -ᶠ getD y (place + w + j) nan } → r ≡ segmentBy x w place j tau t
@@ -89,7 +89,7 @@ pub variance-here : (x : List Float) (ix : List ℕ) (w place c t first i tau : 
 unfolding varianceBy lengthBy segmentBy
 variance-here x ix w place c t first i tau a b s q g l v et eg es eq ea eb el ev = ev ∙ (rw (el, eg, es, eq, ea, eb, et) refl)
 
--- ---- a block of candidates: the variances, their logarithms, and these onto the parts
+-- ---- a block of candidates: the variances, their logarithms, and the costs added to the weights
 pub block-added : (x y : List Float) (ix : List ℕ) (w place p c t first size : ℕ) (vs ls : List Float) → vs ≡ tab (varianceBy x ix w place c t first) size → ls ≡ map ln vs
     → Written x y (p + first) (λ i. getD x (p + first + i) nan +ᶠ lengthBy ix c t (first + i) *ᶠ getD ls i nan) (length ls) → p + first + size ≤ length y
     → Written x y (p + first) (λ i. added Normal x ix w place p c t 1 (first + i)) size
@@ -102,11 +102,11 @@ block-added x y ix w place p c t first size vs ls ev el r room =
     let logarithm : getD ls i nan ≡ ln (varianceBy x ix w place c t first i) = ap (λ (l : List Float). getD l i nan) el ∙ ln-at vs i ∙ ap (λ (l : List Float). ln (getD l i nan)) ev ∙ ap ln (tab-at (varianceBy x ix w place c t first) size i nan h) in
     written-at i nan here h ∙ ap₂ _+ᶠ_ (ap (λ (k : ℕ). getD x k nan) e) (ap (λ (l : Float). lengthBy ix c t (first + i) *ᶠ l) logarithm ∙ raised-cost (segmentBy x w place (first + i) (getD ix (c + (first + i)) 0) t)))
 
--- the front of a longer list of values, as a slice of it is told
+-- the length of the first `n` of a longer list of values, as the code takes a slice of it
 pub front-length : (vs : List Float) (n : ℕ) → n ≤ length vs → length (take (n - 0) vs) ≡ n
 front-length vs n h = let e : n - 0 ≡ n = omega arith in ap (λ (k : ℕ). length (take k vs)) e ∙ length-take-le n vs h
 
--- one block more
+-- one block more, of `size` candidates
 pub block-more : (x y z : List Float) (ix : List ℕ) (w place p c t first size : ℕ) → Written x y p (added Normal x ix w place p c t 1) first
     → Written y z (p + first) (λ i. added Normal y ix w place p c t 1 (first + i)) size → place + w + w ≤ p → t < w → first + size ≤ w → p + (first + size) ≤ length z
     → Written x z p (added Normal x ix w place p c t 1) (first + size)
@@ -128,7 +128,7 @@ block-more x y z ix w place p c t first size r s h l g room =
         let m = leb-false first j e in
         at-front (p + j) nan (s .frame) (omega arith) ∙ written-at j nan r m
 
--- the runs of channel c of k stand before F's
+-- the sums of the channel `c` of `k` stand before F's part
 pub channel-room : (c k w : ℕ) → c < k → 2 * c * w + w + w ≤ 2 * k * w
 channel-room c k w h = omega (arith, mul-more (2 * c) w, mul-room (2 * c + 1) (2 * k) w (omega arith))
 
@@ -138,7 +138,7 @@ runs-small n k h l = mul-le-mul {n₁ = 2 * k} {m₁ = n + 1} {n₂ = 16} {m₂ 
 pub twice : (c w : ℕ) → 2 * c * w ≡ c * (2 * w)
 twice c w = ap (λ (k : ℕ). k * w) (mul-comm 2 c) ∙ mul-assoc c 2 w
 
--- the costs are the same by the same runs
+-- the costs are the same by the same sums
 cost-same : (cost : CostFunction) (x y : List Float) (w p n j tau t k c : ℕ) → Frame x y p n → 2 * k * w ≤ p → t < w → j < w → c ≤ k → costBy cost y w j tau t c ≡ costBy cost x w j tau t c
 unfolding costBy
 cost-same cost x y w p n j tau t k zero f h l g m = refl
@@ -175,19 +175,19 @@ channels-more cost x y z ix w place p c t old k m r a b e h l g o room =
     written-by (λ j. costBy cost x w j (getD ix (c + j) 0) t (k + r)) nan (frame-trans (a .frame) (b .frame)) room
     (λ j i. written-at j nan b i ∙ added-cost cost x y ix w place p old c t j k m r (a .frame) (written-at j nan a i) e h l (omega arith) o)
 
--- parts that are +0, before the first channel
+-- weights that are +0, before the first channel
 pub channels-none : (cost : CostFunction) (x y : List Float) (ix : List ℕ) (w p c t old : ℕ) (v : Float) → Written x y p (λ j. v) old → v ≡ +0
     → Written y y p (λ j. costBy cost y w j (getD ix (c + j) 0) t 0) old
 unfolding costBy
 channels-none cost x y ix w p c t old v r e = record { held = r .held ∙ ap (λ (z : Float). tab (λ (j : ℕ). z) old) e; frame = frame-refl y p old }
 
--- and since then
+-- the costs of `k` channels, by the area `x` as it was before the weights were set to +0
 pub channels-since : (cost : CostFunction) (x y z : List Float) (ix : List ℕ) (w p c t old k : ℕ) → Frame x y p old → Written y z p (λ j. costBy cost y w j (getD ix (c + j) 0) t k) old
     → 2 * k * w ≤ p → t < w → old ≤ w → p + old ≤ length z → Written x z p (λ j. costBy cost x w j (getD ix (c + j) 0) t k) old
 channels-since cost x y z ix w p c t old k f r h l g room =
     written-by (λ j. costBy cost x w j (getD ix (c + j) 0) t k) nan (frame-trans f (r .frame)) room (λ j m. written-at j nan r m ∙ cost-same cost x y w p old j (getD ix (c + j) 0) t k k f h l (omega arith) (omega arith))
 
--- ---- the parts of all, from the costs, F and the young
+-- ---- the weights of all candidates, from the costs, F and the young
 pub weighed : (q : Plan) (x a b z : List Float) (ix : List ℕ) (li old count t place size : ℕ) (v : Float) → Room q (length x) li → old ≤ count → count ≤ q .n
     → Written x a (q .p) (λ j. costBy (q .cost) x (q .n + 1) j (getD ix (q .c + j) 0) t (q .channels)) old
     → Written a b (q .p) (λ j. getD a (q .f + j) nan +ᶠ getD a (q .p + j) nan) old
@@ -232,7 +232,7 @@ parted-here m t cs old i tau r h g l e o f =
 pub parted-none : (m t : ℕ) (cs : List ℕ) → ((j : ℕ) → 0 ≤ j → j < length cs → oldEnough m t (getD cs j 0) ≡ false) → Parted m t cs 0
 parted-none m t cs f = record { few = omega arith; front = λ j h. absurd (not-suc-le-zero h); tail = f }
 
--- one more that is young
+-- one more young candidate, `i`
 pub young-more : (m t : ℕ) (cs : List ℕ) (old i : ℕ) → i + 1 ≡ old → oldEnough m t (getD cs i 0) ≡ false → ((j : ℕ) → old ≤ j → j < length cs → oldEnough m t (getD cs j 0) ≡ false)
     → (j : ℕ) → i ≤ j → j < length cs → oldEnough m t (getD cs j 0) ≡ false
 young-more m t cs old i e o f j h l = ⊎-elim (λ q. rw (← q) o) (λ s. f j (omega arith) l) (eq-or-lt-of-le h)

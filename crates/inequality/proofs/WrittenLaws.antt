@@ -1,4 +1,4 @@
--- Laws of places that were written one after the other, and of what a frame leaves at a place. Assumes nothing.
+-- Laws of values that were written one after the other, and of what a frame leaves at an index. Assumes nothing.
 use Prim.Native.Nat.{ℕ, _+_, _-_, _≤_, _<_}
 use mathlib.Core.Path.{_≡_, refl, sym, ap, _∙_, subst}
 use mathlib.Core.List.{List}
@@ -7,10 +7,10 @@ use lib.ListN.{length, getD, set}
 use lib.Seq.{getD-take, getD-drop, ext-getD, take-all}
 use Rattle.areas.specs.Parts.{part, tab, Frame}
 use Rattle.areas.proofs.PartLaws.{part-at, part-length, tab-at, tab-length, grow, frame-refl, frame-set, frame-wide}
-use Rattle.inequality.specs.Weights.{Written}
+use Rattle.inequality.specs.Inner.Weights.{Written}
 
 module _ {A : Type 0} where
-  -- ---- a place outside a frame
+  -- ---- an index outside a frame
   pub at-front : {x y : List A} {b n : ℕ} (i : ℕ) (d : A) → Frame x y b n → i < b → getD y i d ≡ getD x i d
   at-front {x} {y} {b} i d f h = sym (getD-take b y i d h) ∙ ap (λ (l : List A). getD l i d) (f .front) ∙ getD-take b x i d h
 
@@ -23,7 +23,7 @@ module _ {A : Type 0} where
       ∙ getD-drop (b + n) x (i - (b + n)) d
       ∙ ap (λ (k : ℕ). getD x k d) e
 
-  -- ---- places written
+  -- ---- values written
   pub written-none : (x : List A) (b : ℕ) (g : ℕ → A) → Written x x b g 0
   unfolding part tab
   written-none x b g = record { held = refl; frame = frame-refl x b 0 }
@@ -42,7 +42,7 @@ module _ {A : Type 0} where
   pub written-at : {x y : List A} {b : ℕ} {g : ℕ → A} {n : ℕ} (j : ℕ) (d : A) → Written x y b g n → j < n → getD y (b + j) d ≡ g j
   written-at {x} {y} {b} {g} {n} j d w h = part-at y b n j d h ∙ ap (λ (l : List A). getD l j d) (w .held) ∙ tab-at g n j d h
 
-  -- place by place
+  -- from what stands at each index
   pub written-by : {x y : List A} {b n : ℕ} (g : ℕ → A) (d : A) → Frame x y b n → b + n ≤ length y → ((j : ℕ) → j < n → getD y (b + j) d ≡ g j) → Written x y b g n
   written-by {x} {y} {b} {n} g d f h e =
       record {
@@ -52,7 +52,7 @@ module _ {A : Type 0} where
         frame = f;
       }
 
-  -- the whole list
+  -- where the whole list was written
   pub written-whole : {x y : List A} {g : ℕ → A} {n : ℕ} → Written x y 0 g n → n ≡ length x → y ≡ tab g n
   unfolding part
   written-whole {x} {y} {g} {n} w e = sym (take-all n y (omega (arith, w .frame .long))) ∙ w .held

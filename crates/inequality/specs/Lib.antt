@@ -1,4 +1,2 @@
 pub mod Pruned
-pub mod Held
-pub mod Weights
-pub mod Staying
+pub mod Inner

@@ -1,4 +1,4 @@
--- What `partition_pruned` leaves. Definitions only.
+-- What `partition_pruned` leaves in the lent areas. Definitions only.
 use Prim.Native.Nat.{ℕ, _+_, _-_}
 use mathlib.Core.Path.{_≡_}
 use mathlib.Core.Bool.{true, false}
@@ -10,7 +10,7 @@ use Rattle.costs.specs.declared.CostFunction.{CostFunction}
 use Rattle.search_rules.specs.Room.{searchFits}
 use Rattle.search_rules.specs.Inequality.{predecessors, price}
 
--- the predecessors at the front of the indices and zero everywhere else; both areas as they were where the search does not fit
+-- `indices′` has the predecessors at its front and is zero behind them, and `floats′` is zero; both are as they were, `indices` and `floats`, where the search does not fit
 pub record Pruned (cost : CostFunction) (penalty : Float) (run : List Float) (n k m : ℕ) (floats floats′ : List Float) (indices indices′ : List ℕ) : Type 0 where
   pub found : searchFits (length run) n k m (length floats) (length indices) ≡ true → indices′ ≡ predecessors (price cost run n k) penalty m n ++ replicate (length indices - (n + 1)) 0
   pub cleared : searchFits (length run) n k m (length floats) (length indices) ≡ true → floats′ ≡ replicate (length floats) +0

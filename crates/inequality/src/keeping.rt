@@ -1,17 +1,17 @@
-// The candidates that stay, and what the runs of the floats hold of them.
+// Which candidates stay, and how what the floats hold of them moves to the front.
 ghost use mathlib.Core.Path.{_≡_};
 ghost use mathlib.Core.Bool.{_&&_};
 ghost use Prim.Native.Nat.{_+_, _*_, _≤_, _<_};
 ghost use lib.ListN.{length, getD};
 ghost use lib.Ieee.{nan};
 ghost use Rattle.floats.specs.Numbers.{_<ᶠ_};
-ghost use Rattle.inequality.specs.Held.{Room};
-ghost use Rattle.inequality.specs.Staying.{Staying, Leaving, Retained, RetainedRuns, Joined};
+ghost use Rattle.inequality.specs.Inner.Held.{Room};
+ghost use Rattle.inequality.specs.Inner.Staying.{Staying, Leaving, Retained, RetainedRuns, Joined};
 use crate::Plan;
 use crate::weights::float_at;
 use crate::weights::index_at;
 
-// Whether the part at a place is below the bound.
+// Whether the weight `floats[place]` is below `bound`.
 fn part_below(floats: &[f64], place: usize, bound: f64) -> bool
     requires { ⌜ place < length (now floats) ⌝ }
     ensures { λ r. ⌜ r ≡ (getD (now (floats .entry)) place nan <ᶠ bound) ⌝ }
@@ -19,7 +19,7 @@ fn part_below(floats: &[f64], place: usize, bound: f64) -> bool
     float_at(floats, place) < bound
 }
 
-// Whether four parts from a place on are, with no branch.
+// Whether the four weights `floats[place..place + 4]` are all below `bound`, with no branch.
 fn all_below(floats: &[f64], place: usize, bound: f64) -> bool
     requires { ⌜ place + 4 ≤ length (now floats) ⌝ }
     ensures { λ r. ⌜ r ≡ (((getD (now (floats .entry)) place nan <ᶠ bound && getD (now (floats .entry)) (place + 1) nan <ᶠ bound) && getD (now (floats .entry)) (place + 2) nan <ᶠ bound) && getD (now (floats .entry)) (place + 3) nan <ᶠ bound) ⌝ }
@@ -30,7 +30,8 @@ fn all_below(floats: &[f64], place: usize, bound: f64) -> bool
         & part_below(floats, place + 3, bound)
 }
 
-// How many of the first candidates stay, in fours. Cost: one turn for every four.
+// How many of the first candidates stay, of `count` and counted in fours: a candidate stays if its
+// weight, in `floats` at `p`, is below `bound`. Cost: one turn for every four.
 fn fours_staying(floats: &[f64], p: usize, count: usize, bound: f64) -> usize
     requires { ⌜ p + count ≤ length (now floats) ⌝ }
     ensures { λ r. ⌜ (r ≤ count) × Staying bound (now (floats .entry)) p r ⌝ }
@@ -46,8 +47,9 @@ fn fours_staying(floats: &[f64], p: usize, count: usize, bound: f64) -> usize
     j
 }
 
-// How many of the first candidates stay before one goes, or all. Cost: one turn for every four that
-// stay, and up to four more.
+// How many of the first candidates stay before one goes, or all `count`: a candidate stays if its
+// weight, in `floats` at `p`, is below `bound`. Cost: one turn for every four that stay, and up to four
+// more.
 fn staying(floats: &[f64], p: usize, count: usize, bound: f64) -> usize
     requires { ⌜ p + count ≤ length (now floats) ⌝ }
     ensures { λ r. ⌜ (r ≤ count) × Staying bound (now (floats .entry)) p r ⌝ }
@@ -63,8 +65,9 @@ fn staying(floats: &[f64], p: usize, count: usize, bound: f64) -> usize
     j
 }
 
-// Where the next one stays from a place on, or the end. After a change those before it go together, and
-// need not be looked at run by run. Cost: one turn for each that goes.
+// The first candidate that stays, of those from `from` up to `count`, or `count` if none does: a
+// candidate stays if its weight, in `floats` at `p`, is below `bound`. After a change those before it go
+// together, and need not be looked at part by part. Cost: one turn for each that goes.
 fn leaving(floats: &[f64], p: usize, from: usize, count: usize, bound: f64) -> usize
     requires { ⌜ (p + count ≤ length (now floats)) × (from ≤ count) ⌝ }
     ensures { λ r. ⌜ (from ≤ r) × (r ≤ count) × Leaving bound (now (floats .entry)) p from r ⌝ }
@@ -79,9 +82,10 @@ fn leaving(floats: &[f64], p: usize, from: usize, count: usize, bound: f64) -> u
     j
 }
 
-// What is held of those that stay, to the front of a run, in order; the first `from` stay, and those up
-// to `next` go. A value is stored before it is known whether it stays, which saves a branch. Cost: one
-// turn for each from `next` on.
+// Moves what the part of `floats` at `base` holds of the candidates that stay to its front, in order,
+// and returns how many they are. Of the `count` candidates the first `from` stay, those up to `next` go,
+// and of the others those stay whose weight, in `floats` at `p`, is below `bound`. A value is stored
+// before it is known whether it stays, which saves a branch. Cost: one turn for each from `next` on.
 fn retain_run(
     floats: &mut [f64],
     base: usize,
@@ -108,7 +112,8 @@ fn retain_run(
     kept
 }
 
-// The same of the candidates themselves: how many they are.
+// The same of the candidates themselves, in `indices` at the `c` of `plan`, by the weights in `floats`:
+// returns how many of `count` stay.
 fn retain_indices(
     floats: &[f64],
     indices: &mut [usize],
@@ -137,7 +142,8 @@ fn retain_indices(
     kept
 }
 
-// Every run of sums, and F. Cost: one turn for each run.
+// The same in every part of `floats` that holds sums, and in F's, as `plan` has them. Cost: one turn for
+// each part.
 fn retain_runs(floats: &mut [f64], plan: Plan, from: usize, next: usize, count: usize, bound: f64)
     requires { ⌜ Room plan (length (now floats)) (plan .c + (plan .n + 1)) × (from ≤ next) × (next ≤ count) × (count ≤ plan .n) × Staying bound (now floats) (plan .p) from × Leaving bound (now floats) (plan .p) from next ⌝ }
     ensures { λ r. ⌜ RetainedRuns bound plan (now (floats .entry)) (now (floats .exit)) count (2 * plan .channels + 1) ⌝ }
@@ -153,8 +159,9 @@ fn retain_runs(floats: &mut [f64], plan: Plan, from: usize, next: usize, count: 
     }
 }
 
-// The candidates whose part is below the bound move to the front, in order, and with them what the
-// runs hold of them: how many they are.
+// Moves those of the `count` candidates whose weight is below `bound` to the front of their part of
+// `indices`, in order, and with them what the parts of `floats` hold of them, as `plan` has them;
+// returns how many they are.
 pub(crate) fn retain(
     floats: &mut [f64],
     indices: &mut [usize],
@@ -174,7 +181,8 @@ pub(crate) fn retain(
     count
 }
 
-// The sums at t behind those of the candidates that stayed. Cost: one turn for each run.
+// Copies the sums at `t` behind those of the `kept` candidates that stayed, in each part of `floats`
+// that holds sums, as `plan` has them. Cost: one turn for each part.
 pub(crate) fn join_runs(floats: &mut [f64], plan: Plan, kept: usize, t: usize)
     requires { ⌜ Room plan (length (now floats)) (plan .c + (plan .n + 1)) × (kept ≤ t) × (t ≤ plan .n) ⌝ }
     ensures { λ r. ⌜ Joined plan (now (floats .entry)) (now (floats .exit)) kept t (2 * plan .channels) ⌝ }

@@ -1,11 +1,12 @@
-// The first strict minimum of the parts and the penalty.
+// The first strict minimum of the candidates' totals, each its weight plus the penalty.
 ghost use mathlib.Core.Path.{_≡_};
 ghost use mathlib.Core.Bool.{_||_};
 ghost use Prim.Native.Nat.{_+_, _≤_, _<_};
 ghost use lib.ListN.{length, getD};
 ghost use lib.Ieee.{nan};
+ghost use Rattle.refusals.specs.Limits.{maxReadings};
 ghost use Rattle.floats.specs.Numbers.{_+ᶠ_, _<ᶠ_};
-ghost use Rattle.inequality.specs.Weights.{lowestBy};
+ghost use Rattle.inequality.specs.Inner.Weights.{lowestBy};
 use crate::Plan;
 use crate::weights::float_at;
 use crate::weights::index_at;
@@ -13,7 +14,7 @@ use search_rules::Best;
 use search_rules::better;
 use search_rules::none_yet;
 
-// Whether the total at a place is below a cost.
+// Whether the total `floats[place] + penalty` is below `cost`.
 fn total_below(floats: &[f64], place: usize, penalty: f64, cost: f64) -> bool
     requires { ⌜ place < length (now floats) ⌝ }
     ensures { λ r. ⌜ r ≡ (getD (now (floats .entry)) place nan +ᶠ penalty <ᶠ cost) ⌝ }
@@ -21,7 +22,8 @@ fn total_below(floats: &[f64], place: usize, penalty: f64, cost: f64) -> bool
     float_at(floats, place) + penalty < cost
 }
 
-// Whether one of four totals from a place on is, with no branch.
+// Whether one of the four weights `floats[place..place + 4]` is below `cost` with `penalty` added, with
+// no branch.
 fn one_below(floats: &[f64], place: usize, penalty: f64, cost: f64) -> bool
     requires { ⌜ place + 4 ≤ length (now floats) ⌝ }
     ensures { λ r. ⌜ r ≡ (((getD (now (floats .entry)) place nan +ᶠ penalty <ᶠ cost || getD (now (floats .entry)) (place + 1) nan +ᶠ penalty <ᶠ cost) || getD (now (floats .entry)) (place + 2) nan +ᶠ penalty <ᶠ cost) || getD (now (floats .entry)) (place + 3) nan +ᶠ penalty <ᶠ cost) ⌝ }
@@ -32,7 +34,8 @@ fn one_below(floats: &[f64], place: usize, penalty: f64, cost: f64) -> bool
         | total_below(floats, place + 3, penalty, cost)
 }
 
-// The best of those before `to`, from the best of those before `from`. Cost: one turn for each.
+// The best of the first `to` candidates, from `best`, that of the first `from`: `plan` says where their
+// weights stand in `floats`, and they in `indices`. Cost: one turn for each candidate in between.
 fn better_to(
     floats: &[f64],
     indices: &[usize],
@@ -56,10 +59,10 @@ fn better_to(
     found
 }
 
-// The best of those before j + 4, from the best of those before j. Most of the time no total is below
-// it, and then one branch stands for four, each of which would wait for the one before.
+// The best of the first `j` + 4 candidates, from `best`, that of the first `j`. Most of the time no
+// total is below it, and then one branch stands for four, each of which would wait for the one before.
 fn better_of_four(floats: &[f64], indices: &[usize], plan: Plan, j: usize, best: Best) -> Best
-    requires { ⌜ (j ≤ 4096) × (plan .p + j + 4 ≤ length (now floats)) × (plan .c + j + 4 ≤ length (now indices)) × (best ≡ lowestBy plan (now floats) (now indices) j) ⌝ }
+    requires { ⌜ (j ≤ maxReadings) × (plan .p + j + 4 ≤ length (now floats)) × (plan .c + j + 4 ≤ length (now indices)) × (best ≡ lowestBy plan (now floats) (now indices) j) ⌝ }
     ensures { λ r. ⌜ r ≡ lowestBy plan (now (floats .entry)) (now (indices .entry)) (j + 4) ⌝ }
 {
     let p = plan.p;
@@ -69,9 +72,10 @@ fn better_of_four(floats: &[f64], indices: &[usize], plan: Plan, j: usize, best:
     best
 }
 
-// The best of the first `old` candidates. Cost: one turn for every four.
+// The best of the first `old` candidates: `plan` says where their weights stand in `floats`, and they in
+// `indices`. Cost: one turn for every four.
 pub(crate) fn lowest(floats: &[f64], indices: &[usize], plan: Plan, old: usize) -> Best
-    requires { ⌜ (old ≤ 4096) × (plan .p + old ≤ length (now floats)) × (plan .c + old ≤ length (now indices)) ⌝ }
+    requires { ⌜ (old ≤ maxReadings) × (plan .p + old ≤ length (now floats)) × (plan .c + old ≤ length (now indices)) ⌝ }
     ensures { λ r. ⌜ r ≡ lowestBy plan (now (floats .entry)) (now (indices .entry)) old ⌝ }
 {
     let mut best = none_yet();

@@ -1,14 +1,16 @@
 // The Normal costs of a channel, in blocks of candidates: their variances, the logarithms of these, and
-// the costs onto the parts. Each stage is a loop of its own, so that several candidates go at once.
+// the costs added to the weights. Each stage is a loop of its own, so that several candidates go at
+// once.
 ghost use mathlib.Core.Path.{_≡_};
 ghost use Prim.Native.Nat.{_+_, _*_, _≤_, _<_};
 ghost use lib.ListN.{length, getD};
 ghost use lib.Ieee.{nan};
+ghost use Rattle.refusals.specs.Limits.{maxReadings};
 ghost use Rattle.floats.specs.Numbers.{_+ᶠ_, _*ᶠ_};
 ghost use Rattle.areas.specs.Parts.{part, tab};
 ghost use Rattle.costs.specs.declared.CostFunction.the-variants.{Normal};
-ghost use Rattle.inequality.specs.Held.{Room, AllBelow};
-ghost use Rattle.inequality.specs.Weights.{Written, added, raised, varianceBy, lengthBy};
+ghost use Rattle.inequality.specs.Inner.Held.{Room, AllBelow};
+ghost use Rattle.inequality.specs.Inner.Weights.{Written, added, raised, varianceBy, lengthBy};
 use crate::Plan;
 use crate::weights::float_at;
 use crate::weights::index_at;
@@ -17,7 +19,7 @@ use costs::Segment;
 use costs::l2_cost;
 use logarithms::ln_each;
 
-// A variance at or below 0 counts as the smallest normal number.
+// `variance`, or the smallest normal number where it is at or below 0.
 fn raised(variance: f64) -> f64
     ensures { λ r. ⌜ r ≡ raised variance ⌝ }
 {
@@ -27,8 +29,8 @@ fn raised(variance: f64) -> f64
     variance
 }
 
-// The variances of the candidates from the place `first` on, as many as there are values. Cost: one turn
-// for each.
+// Sets `values` to the variances up to `t` of as many candidates, beginning with the candidate `first`,
+// in the channel whose sums stand in `floats` at `place`. Cost: one turn for each.
 fn vary(
     floats: &[f64],
     indices: &[usize],
@@ -59,7 +61,8 @@ fn vary(
     }
 }
 
-// Each length times the logarithm of its variance, onto the parts. Cost: one turn for each.
+// Adds a cost to the weight of each of as many candidates as there are `logarithms`, beginning with the
+// candidate `first`: its length up to `t` times its logarithm. Cost: one turn for each.
 fn put(
     floats: &mut [f64],
     indices: &[usize],
@@ -68,7 +71,7 @@ fn put(
     t: usize,
     logarithms: &[f64],
 )
-    requires { ⌜ (t ≤ 4096) × (plan .p + first + length (now logarithms) ≤ length (now floats)) × (plan .c + first + length (now logarithms) ≤ length (now indices)) × AllBelow t (part (now indices) (plan .c) (first + length (now logarithms))) ⌝ }
+    requires { ⌜ (t ≤ maxReadings) × (plan .p + first + length (now logarithms) ≤ length (now floats)) × (plan .c + first + length (now logarithms) ≤ length (now indices)) × AllBelow t (part (now indices) (plan .c) (first + length (now logarithms))) ⌝ }
     ensures { λ r. ⌜ Written (now (floats .entry)) (now (floats .exit)) (plan .p + first) (λ i. getD (now (floats .entry)) (plan .p + first + i) nan +ᶠ lengthBy (now (indices .entry)) (plan .c) t (first + i) *ᶠ getD (now (logarithms .entry)) i nan) (length (now (logarithms .entry))) ⌝ }
 {
     let c = plan.c;
@@ -82,7 +85,9 @@ fn put(
     }
 }
 
-// The costs of as many candidates as there are values, whose contents do not matter.
+// Adds the Normal costs up to `t`, in the channel whose sums stand in `floats` at `place`, to the
+// weights of as many candidates as there are `values`, beginning with the candidate `first`. What
+// `values` held does not matter.
 fn add_block(
     floats: &mut [f64],
     indices: &[usize],
@@ -100,7 +105,8 @@ fn add_block(
     put(floats, indices, plan, first, t, values);
 }
 
-// How many candidates the block has that begins at a place: 32, or what is left.
+// How many of `old` candidates the block has that begins with the candidate `first`: 32, or what is
+// left.
 fn block_size(first: usize, old: usize) -> usize
     requires { ⌜ first < old ⌝ }
     ensures { λ r. ⌜ (0 < r) × (r ≤ 32) × (first + r ≤ old) ⌝ }
@@ -111,8 +117,9 @@ fn block_size(first: usize, old: usize) -> usize
     32
 }
 
-// The Normal costs of the channel whose runs stand at a place, onto the parts. Cost: one turn for every
-// 32 candidates.
+// Adds the Normal costs up to `t`, in the channel whose sums stand in `floats` at `place`, to the
+// weights of the first `old` candidates, where `plan` has them in `floats` and `indices`. Cost: one turn
+// for every 32 candidates.
 pub(crate) fn add_normal(
     floats: &mut [f64],
     indices: &[usize],

@@ -1,7 +1,7 @@
-// The search from the lent areas as they come to the predecessors.
+// The search as a whole, from the lent areas as they come to the predecessors.
 ghost use Prim.Native.Nat.{_+_, _*_, _≤_};
 ghost use lib.ListN.{length};
-ghost use Rattle.inequality.specs.Held.{Room, Holds};
+ghost use Rattle.inequality.specs.Inner.Held.{Room, Holds};
 ghost use Rattle.inequality.specs.Pruned.{Pruned};
 use crate::Plan;
 use crate::steps::search;
@@ -11,7 +11,8 @@ use costs::CostFunction;
 use search_rules::search_fits;
 use sums::channel_sums;
 
-// The areas as the first step wants them: the sums, F(0), no predecessor, and the candidate 0.
+// Sets the areas as `plan` wants them before the first step: the sums of `run` and F(0) in `floats`, and
+// no predecessor and the candidate 0 in `indices`.
 fn begin(run: &[f64], floats: &mut [f64], indices: &mut [usize], plan: Plan)
     requires { ⌜ Room plan (length (now floats)) (length (now indices)) × (plan .channels * plan .n ≤ length (now run)) ⌝ }
     ensures { λ r. ⌜ Holds (now (run .entry)) plan (now (floats .exit)) (now (indices .exit)) 1 (plan .m) ⌝ }
@@ -24,8 +25,10 @@ fn begin(run: &[f64], floats: &mut [f64], indices: &mut [usize], plan: Plan)
     indices[c] = 0;
 }
 
-// The predecessors of 0 to n by the inequality search, at the front of the indices; every other lent
-// place is zero afterwards. Nothing is changed where the search does not fit.
+// Writes the predecessors of 0 to `n` by the inequality search to the front of `indices`: for `channels`
+// channels of `run`, of `n` readings each, by `cost` and `penalty`, with pieces of at least `m`
+// readings. All of `floats` and the rest of `indices` are zero afterwards. Where the search does not
+// fit, both areas stay as they were.
 pub fn partition_pruned(
     cost: CostFunction,
     penalty: f64,

@@ -1,20 +1,23 @@
-// The parts of the candidates at t: F(tau) and the cost from tau to t, minus infinity for the young.
+// The weights of the candidates at t: F(tau) plus the cost from tau to t, and minus infinity for the
+// young.
 ghost use mathlib.Core.Path.{_≡_};
 ghost use Prim.Native.Nat.{_+_, _-_, _*_, _≤_, _<_};
 ghost use lib.ListN.{length, getD};
 ghost use lib.Ieee.{nan};
+ghost use Rattle.refusals.specs.Limits.{maxReadings};
 ghost use Rattle.floats.specs.Numbers.{_+ᶠ_, _-ᶠ_, ofWhole};
 ghost use Rattle.areas.specs.Parts.{part};
 ghost use Rattle.costs.specs.declared.CostFunction.the-variants.{L2};
 ghost use Rattle.search_rules.specs.Inequality.{oldEnough};
-ghost use Rattle.inequality.specs.Held.{Room, AllBelow, Rising};
-ghost use Rattle.inequality.specs.Weights.{Parted, Written, costBy, added, weightBy};
+ghost use Rattle.inequality.specs.Inner.Held.{Room, AllBelow, Rising};
+ghost use Rattle.inequality.specs.Inner.Weights.{Parted, Written, costBy, added, weightBy};
 use crate::Plan;
 use crate::normal::add_normal;
 use costs::CostFunction;
 use costs::Segment;
 use costs::l2_cost;
 
+// The index `area[place]`.
 pub(crate) fn index_at(area: &[usize], place: usize) -> usize
     requires { ⌜ place < length (now area) ⌝ }
     ensures { λ r. ⌜ r ≡ getD (now (area .entry)) place 0 ⌝ }
@@ -22,6 +25,7 @@ pub(crate) fn index_at(area: &[usize], place: usize) -> usize
     area[place]
 }
 
+// The float `area[place]`.
 pub(crate) fn float_at(area: &[f64], place: usize) -> f64
     requires { ⌜ place < length (now area) ⌝ }
     ensures { λ r. ⌜ r ≡ getD (now (area .entry)) place nan ⌝ }
@@ -29,6 +33,7 @@ pub(crate) fn float_at(area: &[f64], place: usize) -> f64
     area[place]
 }
 
+// Whether the candidate `tau` is at least `m` old at `t`.
 fn old_enough(m: usize, t: usize, tau: usize) -> bool
     requires { ⌜ tau < t ⌝ }
     ensures { λ r. ⌜ r ≡ oldEnough m t tau ⌝ }
@@ -36,15 +41,16 @@ fn old_enough(m: usize, t: usize, tau: usize) -> bool
     m <= t - tau
 }
 
-// How many readings there are from tau up to t.
+// How many readings there are from `tau` up to `t`, as a float.
 pub(crate) fn length_of(tau: usize, t: usize) -> f64
-    requires { ⌜ (tau < t) × (t ≤ 4096) ⌝ }
+    requires { ⌜ (tau < t) × (t ≤ maxReadings) ⌝ }
     ensures { λ r. ⌜ r ≡ ofWhole (t - tau) ⌝ }
 {
     (t - tau) as f64
 }
 
-// How many candidates are m old: the young are the last of them. Cost: one turn for each young one.
+// How many of the `count` candidates, in `indices` at the `c` of `plan`, are at least m old at `t`: the
+// young are the last of them. Cost: one turn for each young one.
 pub(crate) fn old_count(indices: &[usize], plan: Plan, count: usize, t: usize) -> usize
     requires { ⌜ (plan .c + count ≤ length (now indices)) × AllBelow t (part (now indices) (plan .c) count) × Rising (part (now indices) (plan .c) count) ⌝ }
     ensures { λ r. ⌜ Parted (plan .m) t (part (now (indices .entry)) (plan .c) count) r ⌝ }
@@ -62,7 +68,8 @@ pub(crate) fn old_count(indices: &[usize], plan: Plan, count: usize, t: usize) -
     old
 }
 
-// The segment from the candidate at place j of the list, by what the channel's runs hold at t.
+// The segment of `span` readings from the candidate `j` to t, in the channel whose parts, of `w` floats
+// each, stand in `floats` at `place`; `sum` and `squares` are what they hold at t.
 fn segment_by(
     floats: &[f64],
     place: usize,
@@ -82,8 +89,9 @@ fn segment_by(
     }
 }
 
-// The L2 costs of the channel whose runs stand at a place, onto the parts. Cost: one turn for each
-// candidate, with no branch, so that several go at once.
+// Adds the L2 costs up to `t`, in the channel whose sums stand in `floats` at `place`, to the weights of
+// the first `old` candidates. Cost: one turn for each candidate, with no branch, so that several go at
+// once.
 fn add_l2(floats: &mut [f64], indices: &[usize], plan: Plan, place: usize, old: usize, t: usize)
     requires { ⌜ Room plan (length (now floats)) (length (now indices)) × (place + 2 * (plan .n + 1) ≤ plan .f) × (t ≤ plan .n) × (old ≤ t) × AllBelow t (part (now indices) (plan .c) old) ⌝ }
     ensures { λ r. ⌜ Written (now (floats .entry)) (now (floats .exit)) (plan .p) (added L2 (now (floats .entry)) (now (indices .entry)) (plan .n + 1) place (plan .p) (plan .c) t 1) old ⌝ }
@@ -102,8 +110,8 @@ fn add_l2(floats: &mut [f64], indices: &[usize], plan: Plan, place: usize, old: 
     }
 }
 
-// Those of two channels, whose runs follow each other: a length is worked out, and a part read and
-// written, once for both. Cost: one turn for each candidate.
+// The same in two channels, whose sums follow each other from `place` on: a length is worked out, and a
+// weight read and written, once for both. Cost: one turn for each candidate.
 fn add_l2_pair(
     floats: &mut [f64],
     indices: &[usize],
@@ -133,7 +141,7 @@ fn add_l2_pair(
     }
 }
 
-// One value at so many places. Cost: one turn for each.
+// Sets `floats[place..place + size]` to `value`. Cost: one turn for each.
 fn fill(floats: &mut [f64], place: usize, size: usize, value: f64)
     requires { ⌜ place + size ≤ length (now floats) ⌝ }
     ensures { λ r. ⌜ Written (now (floats .entry)) (now (floats .exit)) place (λ j. value) size ⌝ }
@@ -145,7 +153,9 @@ fn fill(floats: &mut [f64], place: usize, size: usize, value: f64)
     }
 }
 
-// The costs of one channel more onto the parts, or of two by L2 where there are two: of how many.
+// Adds the costs up to `t` in the channel whose sums stand in `floats` at `place` to the weights of the
+// first `old` candidates, or those of two channels by L2 if `left`, the number of the channels to come,
+// is at least 2; returns in how many channels.
 fn add_next(
     floats: &mut [f64],
     indices: &[usize],
@@ -176,7 +186,8 @@ fn add_next(
     }
 }
 
-// The costs over the channels, as parts. Cost: one turn for each channel, or for every two.
+// Sets the weights of the first `old` candidates to their costs up to `t`, added over the channels.
+// Cost: one turn for each channel, or for every two.
 fn add_channels(floats: &mut [f64], indices: &[usize], plan: Plan, old: usize, t: usize)
     requires { ⌜ Room plan (length (now floats)) (length (now indices)) × (t ≤ plan .n) × (old ≤ t) × AllBelow t (part (now indices) (plan .c) old) ⌝ }
     ensures { λ r. ⌜ Written (now (floats .entry)) (now (floats .exit)) (plan .p) (λ j. costBy (plan .cost) (now (floats .entry)) (plan .n + 1) j (getD (now (indices .entry)) (plan .c + j) 0) t (plan .channels)) old ⌝ }
@@ -193,7 +204,8 @@ fn add_channels(floats: &mut [f64], indices: &[usize], plan: Plan, old: usize, t
     }
 }
 
-// F in front of each cost. Cost: one turn for each candidate.
+// Sets the weight of each of the first `old` candidates, which is its cost so far, to F plus that cost.
+// Cost: one turn for each candidate.
 fn add_least(floats: &mut [f64], plan: Plan, old: usize)
     requires { ⌜ (plan .p + old ≤ length (now floats)) × (plan .f + old ≤ plan .p) ⌝ }
     ensures { λ r. ⌜ Written (now (floats .entry)) (now (floats .exit)) (plan .p) (λ j. getD (now (floats .entry)) (plan .f + j) nan +ᶠ getD (now (floats .entry)) (plan .p + j) nan) old ⌝ }
@@ -207,7 +219,8 @@ fn add_least(floats: &mut [f64], plan: Plan, old: usize)
     }
 }
 
-// The parts of all candidates, of which the first `old` are m old.
+// Sets the weights at `t` of all `count` candidates, of which the first `old` are at least m old, where
+// `plan` has them in `floats` and `indices`.
 pub(crate) fn weigh(
     floats: &mut [f64],
     indices: &[usize],

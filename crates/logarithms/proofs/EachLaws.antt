@@ -1,4 +1,4 @@
--- One place more of a loop over a block. Assumes nothing.
+-- Laws of the loops over a block: one index more of plain values, of a relation, of what is still as it was, and of logarithms block by block. Assumes nothing.
 use Prim.Native.Nat.{ℕ, _+_, _-_, _≤_, _<_}
 use mathlib.Core.Path.{_≡_, refl, sym, ap, ap₂, subst, _∙_}
 use mathlib.Core.Bool.{true}
@@ -11,13 +11,13 @@ use lib.ListN.{length, getD, set, take, drop, length-map, length-append, length-
 use lib.Seq.{getD-set-same, getD-set-other, ext-getD, take-length, drop-length, take-at, drop-at, take-add, drop-drop}
 use lib.Ieee.{Float, nan}
 use Rattle.elementary.specs.Logarithm.{ln}
-use Rattle.logarithms.specs.Stages.{plain, Plain, Each, Kept}
+use Rattle.logarithms.specs.Inner.Stages.{plain, Plain, Each, Kept}
 
--- the last place and those before it
+-- what holds below `n` and at `n` holds below `n + 1`
 pub upTo : {P : ℕ → Type 0} (n : ℕ) → ((i : ℕ) → i < n → P i) → P n → (i : ℕ) → i < n + 1 → P i
 upTo {P} n f p i h = ⊎-elim (λ e. subst P (sym e) p) (λ l. f i l) (eq-or-lt-of-le (le-of-suc-le-suc (rw add-one at h)))
 
--- stores elsewhere
+-- a store at `i` changes no other index `j`
 pub other : (xs : List Float) (i j : ℕ) (v : Float) → (j ≡ i → ⊥) → getD (set xs i v) j nan ≡ getD xs j nan
 other xs i j v h = getD-set-other xs i j v nan h
 
@@ -53,12 +53,12 @@ kept-less {xs} {ys} {n} v k = record { same = λ i h. other ys n i v (λ e. apar
     apart e h = omega (arith, e, h)
 
 -- ---- logarithms
--- NaN's is NaN, so a place beyond the list is no exception
+-- NaN's is NaN, so an index beyond the list is no exception
 pub ln-at : (xs : List Float) (i : ℕ) → getD (map ln xs) i nan ≡ ln (getD xs i nan)
 unfolding ln
 ln-at xs i = List·getD-map ln xs i nan
 
--- y is the logarithm of x
+-- `y` is the logarithm of `x`
 abbrev pub Lned : Float → Float → Type 0
 Lned x y = y ≡ ln x
 
@@ -70,7 +70,7 @@ map-append : (xs ys : List Float) → map ln (xs ++ ys) ≡ map ln xs ++ map ln 
 map-append [] ys = refl
 map-append (x ∷ xs) ys = ap (λ (r : List Float). ln x ∷ r) (map-append xs ys)
 
--- the first a are done
+-- `xs` with its first `a` values set to their logarithms
 abbrev pub doneTo : ℕ → List Float → List Float
 doneTo a xs = map ln (take a xs) ++ drop a xs
 

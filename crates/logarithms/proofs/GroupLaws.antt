@@ -1,4 +1,4 @@
--- Groups of values: how they are read, turned and put back. Assumes nothing.
+-- Laws of groups of 16 values: how they are read, turned and put back. Assumes nothing.
 use Prim.Native.Nat.{ℕ, suc, _+_, _-_, _*_, _≤_, _<_}
 use mathlib.Core.Path.{_≡_, refl, sym, ap, ap₂, subst, _∙_}
 use mathlib.Core.List.{List}
@@ -10,7 +10,7 @@ use lib.Seq.{getD-set-same}
 use lib.Ieee.{Float, nan}
 use Rattle.floats.specs.Numbers.{_+ᶠ_, _*ᶠ_, _/ᶠ_, ofWhole}
 use Rattle.elementary.specs.Logarithm.{series}
-use Rattle.logarithms.specs.Stages.{Begun, Each, Filled, Put}
+use Rattle.logarithms.specs.Inner.Stages.{Begun, Each, Filled, Put}
 use Rattle.logarithms.proofs.EachLaws.{upTo, other, before}
 
 pub filled-none : {f : ℕ → Float} {xs : List Float} → Filled f 0 xs
@@ -49,7 +49,7 @@ put-fewer l p = record { stored = λ i h. p .stored i (omega (arith, l, h)); sam
 pub each-fewer : {R : Float → Float → Type 0} {xs ys : List Float} {m n : ℕ} → m ≤ n → Each R n xs ys → Each R m xs ys
 each-fewer l f = record { each = λ i h. f .each i (omega (arith, l, h)) }
 
--- one group more: its values were read from a place on, and what came of them stands there
+-- one group more: `group` was read from `xs` at `place`, and `result`, which came of it, was put there
 pub each-group : {R : Float → Float → Type 0} {xs ys zs group result : List Float} {place n : ℕ} → Each R place xs ys
     → Filled (λ k. getD xs (place + k) nan) n group → Each R n group result → Put place n result ys zs → Each R (place + n) xs zs
 each-group {R} {xs} {ys} {zs} {group} {result} {place} {n} f g r p = record { each = λ i h. go i h (decLe place i) }

@@ -15,15 +15,16 @@ use lib.Ieee.Fits.{round-fits, down-pos, and-l, and-r}
 use lib.Ieee.Exact.{HasValue, round-exact}
 use lib.Ieee.Scale.{round-same}
 use lib.Ieee.Positive.{positive}
+use lib.Ieee.Bits.{is-true}
 use Rattle.floats.specs.Numbers.{_+ᶠ_, _*ᶠ_, _/ᶠ_, +0, ofWhole, ratio}
 use Rattle.floats.proofs.Order.Laws.{lt→le, lt-then-le}
 use Rattle.floats.proofs.Order.Zero.{above-zero}
 use Rattle.floats.proofs.Order.Patterns as Patterns
 use Rattle.floats.proofs.Order.Patterns.{unsigned, pattern-order}
-use Rattle.elementary.specs.Parts.{countOf}
+use Rattle.elementary.specs.Inner.Parts.{countOf}
 use Rattle.elementary.specs.Logarithm.{series, lnOf, lnScaled, ln}
 use Rattle.elementary.proofs.Laws.{Pattern, below, value, unit-fits, same-value, placed-is, count-high, pattern-below, less-is-no-nan, sig, exp, high-scaled, high-root, one-more, ln-of-value, ln-of-parts}
-use Rattle.logarithms.specs.Stages.{plain, exponentOf, quotientBy, quotientOf, Begun}
+use Rattle.logarithms.specs.Inner.Stages.{plain, exponentOf, quotientBy, quotientOf, Begun}
 
 -- ---- half of a significand is exact
 units-of : (g k : ℕ) → 2 ^ 52 ≤ g → g < 2 ^ 53 → k ≤ 2044 → round binary64 false (g * 2 ^ k) (2 ^ 1074) ≡ units binary64 false g k
@@ -139,12 +140,8 @@ module _ (v : Float) (f : T (fits binary64 v)) (h : plain v ≡ true) where
       let t : T (plain v) = subst T (sym h) tt in
       (and-l (lt (ofBits binary64 0x000f_ffff_ffff_ffff) v) (lt v (ofBits binary64 0x7ff0_0000_0000_0000)) t, and-r (lt (ofBits binary64 0x000f_ffff_ffff_ffff) v) (lt v (ofBits binary64 0x7ff0_0000_0000_0000)) t)
 
-  true-of : (b : Bool) → T b → b ≡ true
-  true-of true t = refl
-  true-of false t = absurd t
-
   above : lt +0 v ≡ true
-  above = true-of (lt +0 v) (lt-then-le +0 (ofBits binary64 0x000f_ffff_ffff_ffff) v zero-first (lt→le (ofBits binary64 0x000f_ffff_ffff_ffff) v (both .0)))
+  above = is-true (lt +0 v) (lt-then-le +0 (ofBits binary64 0x000f_ffff_ffff_ffff) v zero-first (lt→le (ofBits binary64 0x000f_ffff_ffff_ffff) v (both .0)))
 
   abbrev pattern : ℕ
   pattern = toBits binary64 v
@@ -153,20 +150,20 @@ module _ (v : Float) (f : T (fits binary64 v)) (h : plain v ≡ true) where
   low-bound =
       let a = Patterns.pattern-of 0x000f_ffff_ffff_ffff (lit≤ tt) in
       let e = pattern-order (ofBits binary64 0x000f_ffff_ffff_ffff) v (a .clear) (unsigned-of v above) (a .held) f in
-      let l = ltb-true _ _ (sym e ∙ true-of _ (both .0)) in
+      let l = ltb-true _ _ (sym e ∙ is-true _ (both .0)) in
       subst (λ (z : ℕ). z < pattern) (a .back) l
 
   pub high-bound : pattern < 2047 * 2 ^ 52
   high-bound =
       let a = Patterns.pattern-of 0x7ff0_0000_0000_0000 (lit≤ tt) in
       let e = pattern-order v (ofBits binary64 0x7ff0_0000_0000_0000) (unsigned-of v above) (a .clear) f (a .held) in
-      let l = ltb-true _ _ (sym e ∙ true-of _ (both .1)) in
+      let l = ltb-true _ _ (sym e ∙ is-true _ (both .1)) in
       subst (λ (z : ℕ). pattern < z) (a .back) l
 
   pub plain-number : T (not (isNan v))
-  plain-number = less-is-no-nan v (ofBits binary64 0x7ff0_0000_0000_0000) (true-of _ (both .1))
+  plain-number = less-is-no-nan v (ofBits binary64 0x7ff0_0000_0000_0000) (is-true _ (both .1))
 
-  -- its logarithm from the exponent and the quotient
+  -- the logarithm of `v` from its exponent and its quotient
   pub ln-plain : exponentOf v *ᶠ ratio 6931471805599453 (10 ^ 16) +ᶠ ofWhole 2 *ᶠ quotientOf v *ᶠ series 10 (quotientOf v *ᶠ quotientOf v) (ofWhole 1 /ᶠ ofWhole 21) ≡ ln v
   unfolding lnOf exponentOf quotientOf
   ln-plain =
@@ -176,7 +173,7 @@ module _ (v : Float) (f : T (fits binary64 v)) (h : plain v ≡ true) where
       (sym (ap (λ (z : ℕ). z * 2 ^ 1074) (count-high pattern low-bound) ∙ high-root pattern low-bound))
       ∙ by-sum pattern low-bound high-bound)
 
-  -- as the last stage has it
+  -- the same as `joined` has it, with `s` for the quotient and `P` for the sum
   pub ln-joined : (s P : Float) → s ≡ quotientOf v → Begun 0 s P → exponentOf v *ᶠ ratio 6931471805599453 (10 ^ 16) +ᶠ ofWhole 2 *ᶠ s *ᶠ P ≡ ln v
   unfolding Begun series
   ln-joined s P e g =

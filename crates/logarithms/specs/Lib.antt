@@ -1,1 +1,1 @@
-pub mod Stages
+pub mod Inner

@@ -1,17 +1,17 @@
-// The logarithms of any number of values, 32 at a time.
+// The logarithms of any number of values, in blocks of 32.
 ghost use mathlib.Core.Path.{_≡_};
 ghost use mathlib.Core.List.{map};
 ghost use Prim.Native.Nat.{_≤_, _<_, _+_};
 ghost use lib.ListN.{length};
 ghost use Rattle.elementary.specs.Logarithm.{ln};
-ghost use Rattle.logarithms.specs.Stages.{Plain};
+ghost use Rattle.logarithms.specs.Inner.Stages.{Plain};
 use crate::groups::sum_up;
 use crate::plain::all_plain;
 use crate::stages::join;
 use crate::stages::quotients;
 
-// The logarithms of plain values. Cost: two loops of one turn for each value, and one for
-// every 16.
+// Sets each of `values`, which are plain and at most 32, to its logarithm. Cost: two loops of one turn
+// for each value, and one of a turn for every 16.
 fn ln_plain(values: &mut [f64])
     requires { ⌜ (length (now values) ≤ 32) × Plain (length (now values)) (now values) ⌝ }
     ensures { λ r. ⌜ now (values .exit) ≡ map ln (now (values .entry)) ⌝ }
@@ -24,7 +24,7 @@ fn ln_plain(values: &mut [f64])
     join(values, &ratios, &sums);
 }
 
-// The logarithms of any values, one after another. Cost: one turn for each value.
+// Sets each of `values` to its logarithm, one after another. Cost: one turn for each value.
 fn ln_in_turn(values: &mut [f64])
     ensures { λ r. ⌜ now (values .exit) ≡ map ln (now (values .entry)) ⌝ }
 {
@@ -35,7 +35,7 @@ fn ln_in_turn(values: &mut [f64])
     }
 }
 
-// The logarithms of at most 32 values.
+// Sets each of `values`, at most 32, to its logarithm.
 fn ln_block(values: &mut [f64])
     requires { ⌜ length (now values) ≤ 32 ⌝ }
     ensures { λ r. ⌜ now (values .exit) ≡ map ln (now (values .entry)) ⌝ }
@@ -46,7 +46,7 @@ fn ln_block(values: &mut [f64])
     ln_in_turn(values);
 }
 
-// Where a block that begins at a place ends.
+// The index where the block that begins at `start` ends, among `size` values: at most 32 further on.
 fn block_end(start: usize, size: usize) -> usize
     requires { ⌜ start < size ⌝ }
     ensures { λ r. ⌜ (start < r) × (r ≤ size) × (r ≤ start + 32) ⌝ }
@@ -57,7 +57,7 @@ fn block_end(start: usize, size: usize) -> usize
     start + 32
 }
 
-// Each value becomes its natural logarithm. Cost: one turn for each block of 32 values.
+// Sets each of `values` to its natural logarithm. Cost: one turn for each block of 32 values.
 pub fn ln_each(values: &mut [f64])
     ensures { λ r. ⌜ now (values .exit) ≡ map ln (now (values .entry)) ⌝ }
 {

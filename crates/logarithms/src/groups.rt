@@ -5,9 +5,9 @@ ghost use Prim.Native.Nat.{_+_, _≤_};
 ghost use lib.ListN.{length, getD};
 ghost use lib.Ieee.{nan};
 ghost use Rattle.floats.specs.Numbers.{_+ᶠ_, _*ᶠ_};
-ghost use Rattle.logarithms.specs.Stages.{Begun, Each, Filled, Put};
+ghost use Rattle.logarithms.specs.Inner.Stages.{Begun, Each, Filled, Put};
 
-// The 16 values from a place on.
+// The 16 values `values[place..place + 16]`.
 fn group_at(values: &[f64], place: usize) -> [f64; 16]
     requires { ⌜ (place ≤ 4096) × (place + 16 ≤ length (now values)) ⌝ }
     ensures { λ r. ⌜ Filled (λ k. getD (now (values .entry)) (place + k) nan) 16 r ⌝ }
@@ -21,6 +21,7 @@ fn group_at(values: &[f64], place: usize) -> [f64; 16]
     group
 }
 
+// The square of each of the 16 `ratios`.
 fn squared(ratios: [f64; 16]) -> [f64; 16]
     ensures { λ r. ⌜ Filled (λ k. getD ratios k nan *ᶠ getD ratios k nan) 16 r ⌝ }
 {
@@ -33,7 +34,7 @@ fn squared(ratios: [f64; 16]) -> [f64; 16]
     squares
 }
 
-// One turn: times z, and a term more.
+// One turn of 16 sums: each of `sums` times its square of `squares`, and `term` added.
 fn turned(sums: [f64; 16], squares: [f64; 16], term: f64) -> [f64; 16]
     ensures { λ r. ⌜ Filled (λ k. getD sums k nan *ᶠ getD squares k nan +ᶠ term) 16 r ⌝ }
 {
@@ -46,7 +47,7 @@ fn turned(sums: [f64; 16], squares: [f64; 16], term: f64) -> [f64; 16]
     next
 }
 
-// The sums of 16 ratios, in ten turns.
+// The sum for each of the 16 `ratios`, in ten turns.
 fn sums_of(ratios: [f64; 16]) -> [f64; 16]
     ensures { λ r. ⌜ Each (Begun 0) 16 ratios r ⌝ }
 {
@@ -64,7 +65,7 @@ fn sums_of(ratios: [f64; 16]) -> [f64; 16]
     turned(p, z, 1.0)
 }
 
-// 16 values to a place and those after it.
+// Sets `values[place..place + 16]` to `group`.
 fn put_group(values: &mut [f64], place: usize, group: [f64; 16])
     requires { ⌜ (place ≤ 4096) × (place + 16 ≤ length (now values)) ⌝ }
     ensures { λ r. ⌜ Put place 16 group (now (values .entry)) (now (values .exit)) ⌝ }
@@ -76,8 +77,8 @@ fn put_group(values: &mut [f64], place: usize, group: [f64; 16])
     }
 }
 
-// The sums of the first count ratios, and of what stands behind them up to the next group. Cost: one turn
-// for every 16.
+// Sets `sums[..count]` to the sums for `ratios[..count]`, and the rest of the last group of 16 to those
+// for the ratios there. Cost: one turn for every 16.
 pub(crate) fn sum_up(ratios: &[f64], sums: &mut [f64], count: usize)
     requires { ⌜ (count ≤ 32) × (length (now ratios) ≡ 32) × (length (now sums) ≡ 32) ⌝ }
     ensures { λ r. ⌜ Each (Begun 0) count (now (ratios .entry)) (now (sums .exit)) ⌝ }

@@ -1,4 +1,4 @@
--- Brackets around the value at a place: the first one, its halves, and what one says at the end. Assumes nothing.
+-- Laws of brackets around the value of a rank: the first one, its halves, and what one says at the end. Assumes nothing.
 use Prim.Native.Nat.{ℕ, _+_, _-_, _≤_, _<_}
 use mathlib.Core.Path.{_≡_, refl, sym, ap, _∙_}
 use mathlib.Core.Bool.{Bool, true, false, _&&_, true≢false}
@@ -10,12 +10,12 @@ use lib.Dec.{ltb}
 use lib.ListN.{length, getD}
 use lib.Ieee.{Float, nan, binary64, lt, eq, ofBits}
 use Rattle.medians.specs.declared.Bracket.{Bracket}
-use Rattle.medians.specs.Ranks.{count, Each, magnitude, countBelow, numbers, rankedOf, highest, Around, wide, inBracket, passing}
+use Rattle.medians.specs.Inner.Ranks.{count, Each, magnitude, countBelow, numbers, rankedOf, highest, Around, wide, inBracket, passing}
 use Rattle.medians.proofs.CountLaws.{count-most, count-length, count-implied}
 use Rattle.medians.proofs.KeptLaws.{lt-transitive, between-count, inside-kept, ranked-kept}
 use Rattle.medians.proofs.RankLaws.{none-below-zero, pattern-below, below-number, equals-itself, near-found}
 
--- from 0 up to infinity
+-- the bracket from 0 up to infinity
 pub around-first : (xs : List Float) (k : ℕ) (b : Bracket) → Each magnitude xs → b .low ≡ 0 → b .high ≡ highest → b .under ≡ 0
     → b .upto ≡ countBelow (ofBits binary64 highest) xs → k < b .upto → Around xs k b
 around-first xs k b m el eh eu e h =
@@ -31,7 +31,7 @@ around-first xs k b m el eh eu e h =
     none : countBelow (ofBits binary64 0) xs ≡ 0
     none = omega (arith, count-most (λ (y : Float). lt y (ofBits binary64 0)) xs 0 (λ i l h. none-below-zero (getD xs i nan) (m .each i h)))
 
--- its two parts around a pattern
+-- the two parts of the bracket `b` around `pattern`
 module _ (xs : List Float) (k : ℕ) (b : Bracket) (a : Around xs k b) {pattern c : ℕ} (l : b .low < pattern) (h : pattern < b .high) {x : Float} (f : x ≡ ofBits binary64 pattern) (g : c ≡ countBelow x xs) where
   counted : c ≡ countBelow (ofBits binary64 pattern) xs
   counted = g ∙ ap (λ (z : Float). countBelow z xs) f
@@ -42,7 +42,7 @@ module _ (xs : List Float) (k : ℕ) (b : Bracket) (a : Around xs k b) {pattern 
   pub lower-part : k < c → Around xs k (record { low = b .low; high = pattern; under = b .under; upto = c }) × (pattern - b .low < b .high - b .low)
   lower-part t = (record { known = omega (arith, h, a .known); apart = l; low-counted = a .low-counted; high-counted = counted; few = a .few; many = t }, omega (arith, l, h))
 
--- where a bracket has one pattern, it is the value's
+-- where a bracket has one pattern, it is that of the value
 some-number : (xs : List Float) (p : ℕ) → countBelow (ofBits binary64 p) xs ≤ numbers xs
 some-number xs p = count-implied (λ (y : Float). lt y (ofBits binary64 p)) (λ (y : Float). eq y y) xs (λ i l e. equals-itself (getD xs i nan) (below-number (getD xs i nan) (ofBits binary64 p) e))
 
@@ -63,11 +63,11 @@ infinite-found xs m k inside few some =
     near-found xs m k inside some
     record { known = le-refl highest; few = few; many = λ q. absurd (let z : 0x7ff0_0000_0000_0000 + 1 ≤ 0x7ff0_0000_0000_0000 = q in omega (arith, z)) }
 
--- what is below a pattern's value is below that of a higher one
+-- what is below the value of the pattern `p` is below that of a higher pattern `q`
 pub below-further : (p q : ℕ) → p < q → q ≤ highest → (y : Float) → lt y (ofBits binary64 p) ≡ true → lt y (ofBits binary64 q) ≡ true
 below-further p q l h y e = lt-transitive y (ofBits binary64 p) (ofBits binary64 q) e (pattern-below p q (le-trans (le-of-lt l) h) h ∙ lt-ltb p q l)
 
--- halving goes on until there is one pattern, or there are few enough values
+-- a bracket that is not `wide` has one pattern, or at most `values` values
 pub one-pattern : (b : Bracket) (values : ℕ) → wide b 1 values ≡ false → values < b .upto - b .under → ltb 1 (b .high - b .low) ≡ false
 one-pattern b values e h = side (ltb 1 (b .high - b .low)) (ltb values (b .upto - b .under)) e (lt-ltb values (b .upto - b .under) h)
   where
@@ -82,7 +82,7 @@ few-values b patterns values h = side (ltb patterns (b .high - b .low)) (le-ltb 
     side true e = e
     side false e = refl
 
--- ---- the values of a bracket, copied: how many they are, and the value at a place among them
+-- ---- the values of a bracket, copied: how many they are, and the value of a rank among them
 module _ (xs : List Float) {first : ℕ} (b : Bracket) (a : Around xs first b) {lo hi : Float} (e : lo ≡ ofBits binary64 (b .low)) (f : hi ≡ ofBits binary64 (b .high)) (k : ℕ) (l : first ≤ k) (h : k < b .upto) where
   under-is : b .under ≡ countBelow lo xs
   under-is = a .low-counted ∙ ap (λ (z : Float). countBelow z xs) (sym e)

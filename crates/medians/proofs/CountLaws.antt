@@ -1,4 +1,4 @@
--- Laws of counting the values that pass a test, and what a count says of single places. Assumes nothing.
+-- Laws of counting the values that pass a test, and what a count says of single values. Assumes nothing.
 use Prim.Native.Nat.{ℕ, zero, suc, _+_, _≤_, _<_, zero-le, suc-le-suc}
 use mathlib.Core.Path.{_≡_, refl, sym, ap, _∙_}
 use mathlib.Core.Bool.{Bool, true, false, not, cond}
@@ -10,7 +10,7 @@ use lib.ListN.{length, getD, take, drop, take-append-drop}
 use lib.Seq.{take-suc, take-length}
 use native.Mathlib.Numerals.{add-one}
 use lib.Ieee.{Float, nan}
-use Rattle.medians.specs.Ranks.{count, Each}
+use Rattle.medians.specs.Inner.Ranks.{count, Each}
 
 abbrev pub one : Bool → ℕ
 one b = cond b 1 0
@@ -35,11 +35,11 @@ counted-out p xs i n e h t = rw add-one (omega (arith, e, count-more p xs i h �
 pub counted-all : (p : Float → Bool) (xs : List Float) (i n : ℕ) → n ≡ count p (take i xs) → i ≡ length xs → n ≡ count p xs
 counted-all p xs i n e h = e ∙ ap (count p) (ap (λ (k : ℕ). take k xs) h ∙ take-length xs)
 
--- a value that passes was not among those before it
+-- of the first `i` values no more pass than of all
 pub count-front : (p : Float → Bool) (xs : List Float) (i : ℕ) → count p (take i xs) ≤ count p xs
 count-front p xs i = omega (arith, sym (count-append p (take i xs) (drop i xs)) ∙ ap (count p) (take-append-drop i xs))
 
--- values from place m on that fail leave at most m
+-- where every value at an index of at least `m` fails, at most `m` pass
 pub count-most : (p : Float → Bool) (xs : List Float) (m : ℕ) → ((i : ℕ) → m ≤ i → i < length xs → p (getD xs i nan) ≡ false) → count p xs ≤ m
 unfolding count
 count-most p [] m h = zero-le
@@ -56,14 +56,14 @@ count-length p xs = count-most p xs (length xs) (λ i l h. absurd (beyond i l h)
     beyond : (i : ℕ) → length xs ≤ i → i < length xs → ⊥
     beyond i l h = omega (arith, l, h)
 
--- m first values that pass make at least m
+-- where the first `m` values pass, at least `m` do
 pub count-least : (p : Float → Bool) (xs : List Float) (m : ℕ) → m ≤ length xs → ((i : ℕ) → i < m → p (getD xs i nan) ≡ true) → m ≤ count p xs
 unfolding count
 count-least p xs zero l h = zero-le
 count-least p [] (suc m) l h = absurd (not-suc-le-zero l)
 count-least p (x ∷ xs) (suc m) l h = rw (h 0 (omega arith)) (omega (arith, count-least p xs m (le-of-suc-le-suc l) (λ i k. h (suc i) (suc-le-suc k))))
 
--- a weaker test counts at least as many
+-- a test `q` that every value passes which passes `p` counts at least as many
 pub count-weaker : (p q : Float → Bool) (xs : List Float) → ((v : Float) → p v ≡ true → q v ≡ true) → count p xs ≤ count q xs
 unfolding count
 count-weaker p q [] h = zero-le
@@ -73,7 +73,7 @@ count-weaker p q (x ∷ xs) h = side (p x) refl (count-weaker p q xs h)
     side true e k = rw (e, h x e) (omega arith)
     side false e k = rw e (omega arith)
 
--- none that passes: each fails, and the other way round
+-- where none passes each fails, and the other way round
 pub count-none : (p : Float → Bool) (xs : List Float) (i : ℕ) → count p xs ≡ 0 → i < length xs → p (getD xs i nan) ≡ false
 unfolding count
 count-none p [] i e h = absurd (not-suc-le-zero h)
@@ -90,7 +90,7 @@ count-none p (x ∷ xs) (suc i) e h = count-none p xs i (omega arith) (le-of-suc
 each-not : {p : Float → Bool} {xs : List Float} → Each p xs → count (λ (v : Float). not (p v)) xs ≡ 0
 each-not {p} {xs} h = omega (arith, count-most (λ (v : Float). not (p v)) xs 0 (λ i l k. ap not (h .each i k)))
 
--- where the one test passes, at the list's places, the other does
+-- where every value of `xs` that passes `p` passes `q`, `q` counts at least as many
 pub count-implied : (p q : Float → Bool) (xs : List Float) → ((i : ℕ) → i < length xs → p (getD xs i nan) ≡ true → q (getD xs i nan) ≡ true) → count p xs ≤ count q xs
 unfolding count
 count-implied p q [] h = zero-le
@@ -100,6 +100,6 @@ count-implied p q (x ∷ xs) h = side (p x) refl (count-implied p q xs (λ i l. 
     side true e k = rw (e, h 0 (suc-le-suc zero-le) e) (omega arith)
     side false e k = rw e (omega arith)
 
--- of two lists in which every test counts the same, every value of the one passes where every one of the other does
+-- of two lists `xs` and `ys` in which every test counts the same, every value of `ys` passes `p` where every one of `xs` does
 pub counts-each : {p : Float → Bool} {xs ys : List Float} → ((q : Float → Bool) → count q xs ≡ count q ys) → Each p xs → Each p ys
 counts-each {p} {xs} {ys} s h = record { each = λ i l. not-false (p (getD ys i nan)) (count-none (λ (v : Float). not (p v)) ys i (sym (s (λ (v : Float). not (p v))) ∙ each-not h) l) }

@@ -1,4 +1,4 @@
--- The values that pass a test, and the value at a place among those between two values. Assumes nothing.
+-- Laws of the values that pass a test, and the value of a rank among those between two values. Assumes nothing.
 use Prim.Native.Nat.{ℕ, zero, suc, _+_, _-_, _≤_, _<_, zero-le, suc-le-suc}
 use mathlib.Core.Path.{_≡_, refl, sym, ap, _∙_}
 use mathlib.Core.Bool.{Bool, true, false, not, _&&_, false≢true, true≢false}
@@ -12,13 +12,14 @@ use lib.ListN.{length, getD, take, length-take}
 use lib.Seq.{take-suc, getD-take}
 use lib.Ieee.{Float, nan, lt}
 use lib.Ieee.Bits.{is-true}
+use Rattle.logic.proofs.Laws.{both}
 use Rattle.floats.specs.Ahead.{ahead}
 use Rattle.floats.proofs.Order.Laws.{number, le-left, lt→le, lt-then-le}
-use Rattle.medians.specs.Ranks.{count, Each, magnitude, countBelow, rankedOf, inBracket, passing}
+use Rattle.medians.specs.Inner.Ranks.{count, Each, magnitude, countBelow, rankedOf, inBracket, passing}
 use Rattle.medians.proofs.OrderLaws.{holds, ahead-of-number}
 use Rattle.medians.proofs.CountLaws.{one, count-length, counts-each}
 use Rattle.medians.proofs.SortLaws.{sorted-count, sorted-length}
-use Rattle.medians.proofs.RankLaws.{both-parts, by-counts, ranked-few, ranked-many}
+use Rattle.medians.proofs.RankLaws.{by-counts, ranked-few, ranked-many}
 
 module _ (p : Float → Bool) where
   kept-in : (x : Float) (xs : List Float) → p x ≡ true → passing p (x ∷ xs) ≡ x ∷ passing p xs
@@ -29,7 +30,7 @@ module _ (p : Float → Bool) where
   unfolding passing
   kept-out x xs e = ap (λ (b : Bool). elim b [ true ↦ x ∷ passing p xs | false ↦ passing p xs ]) e
 
-  -- what is counted among them passes both tests
+  -- of the values that pass `p`, `q` counts those that pass both
   pub kept-count : (q : Float → Bool) (xs : List Float) → count q (passing p xs) ≡ count (λ (y : Float). p y && q y) xs
   unfolding count passing
   kept-count q [] = refl
@@ -49,7 +50,7 @@ module _ (p : Float → Bool) where
       side true h = omega (arith, h)
       side false h = omega (arith, h)
 
-  -- each of them passes it, and every test that all passed
+  -- each of the values that pass `p` passes every test `q` that follows from `p` in `xs`
   pub kept-each : (q : Float → Bool) (xs : List Float) → ((i : ℕ) → i < length xs → p (getD xs i nan) ≡ true → q (getD xs i nan) ≡ true) → Each q (passing p xs)
   unfolding passing
   kept-each q [] h = record { each = λ i l. absurd (not-suc-le-zero l) }
@@ -111,7 +112,7 @@ lt-transitive x y z e f = is-true (lt x z) (lt-then-le x y z (holds e) (lt→le 
 number-left : (x y : Float) → lt x y ≡ true → T (number x)
 number-left x y e = le-left x y (lt→le x y (holds e))
 
--- ---- the value at a place between two values stands among those that are between them, as many places further on as are below the low one
+-- ---- the value of the rank `k`, where it lies from `lo` up to `hi`, has the rank `k` less the count below `lo` among the values that do
 module _ (xs : List Float) (k : ℕ) (lo hi : Float) (few : countBelow lo xs ≤ k) (many : k < countBelow hi xs) (ordered : (y : Float) → lt y lo ≡ true → lt y hi ≡ true) where
   abbrev test : Float → Bool
   test = inBracket lo hi
@@ -138,10 +139,10 @@ module _ (xs : List Float) (k : ℕ) (lo hi : Float) (few : countBelow lo xs ≤
   v-between = counts-each (λ q. sorted-count q (passing test xs)) (kept-each test test xs (λ i l e. e)) .each place (omega (arith, inside-kept, sorted-length (passing test xs)))
 
   below-high : lt v hi ≡ true
-  below-high = both-parts (lt v hi) (not (lt v lo)) v-between .0
+  below-high = both (lt v hi) (not (lt v lo)) v-between .0
 
   not-below-low : lt v lo ≡ false
-  not-below-low = not-true (lt v lo) (both-parts (lt v hi) (not (lt v lo)) v-between .1)
+  not-below-low = not-true (lt v lo) (both (lt v hi) (not (lt v lo)) v-between .1)
 
   few-ahead : count (λ (y : Float). ahead y v) xs ≤ k
   few-ahead =

@@ -12,10 +12,10 @@ use lib.Ieee.Fits.{down-pos, sub-fits}
 use lib.Ieee.Nearest.{div-same}
 use Rattle.floats.specs.Finite.{abs}
 use Rattle.floats.specs.Ahead.{ahead}
-use Rattle.medians.specs.Ranks.{magnitude}
+use Rattle.medians.specs.Inner.Ranks.{magnitude}
 use Rattle.medians.proofs.OrderLaws.{holds, ahead-of-nan, ahead-of-number}
 
--- numbers that are as many of the smallest value have one pattern
+-- numbers that are the same count of the smallest value have one pattern
 scaled : (a b c d w : ℕ) → a * d ≡ b * c → a * w * d ≡ b * w * c
 scaled a b c d w h = omega (arith, ap (λ (z : ℕ). z * w) h)
 
@@ -59,7 +59,7 @@ level-equal (fin false m e) (fin true n d) p q h k = absurd (false≢true q)
 level-equal (fin false m e) (fin false n d) p q h k =
     numbers-level m e n d (holds p) (holds q) (sym (ahead-of-number (fin false m e) (fin false n d) tt) ∙ h) (sym (ahead-of-number (fin false n d) (fin false m e) tt) ∙ k)
 
--- ---- the magnitude of a difference is one
+-- ---- the magnitude of a difference is a `magnitude`
 abs-magnitude : (x : Float) → T (fits binary64 x) → magnitude (abs x) ≡ true
 unfolding magnitude abs
 abs-magnitude nan h = refl

@@ -15,10 +15,10 @@ use Rattle.areas.specs.Parts.{tab}
 use Rattle.areas.proofs.PartLaws.{tab-length, tab-at, tab-more}
 use Rattle.medians.specs.declared.Middles.{Middles}
 use Rattle.medians.specs.Median.{differenceAt, differences, median, fitsRun, Found}
-use Rattle.medians.specs.Ranks.{Each, magnitude, rankedOf, middlesOf}
+use Rattle.medians.specs.Inner.Ranks.{Each, magnitude, rankedOf, middlesOf}
 use Rattle.medians.proofs.MagnitudeLaws.{difference-magnitude}
 
--- ---- one more place of a front that is written
+-- ---- one more value of a front that is written
 pub front-more : {A : Type 0} (xs : List A) (i : ℕ) (v : A) (ys : List A) → i < length xs → take i xs ≡ ys → take (i + 1) (set xs i v) ≡ ys ++ (v ∷ [])
 front-more xs i v ys h e = rw add-one (take-suc-set xs i v h ∙ ap (λ (l : List _). l ++ (v ∷ [])) e)
 
@@ -63,7 +63,7 @@ even-median xs two n t e h =
     below : (k : ℕ) → (k % 2 ≡ 1 → ⊥) → (k - 1) / 2 ≡ k / 2 - 1
     below k g = omega arith
 
--- ---- runs that fit, and what is found by way of them
+-- ---- areas that fit, and what is found by way of them
 pub fits-run : (places readings : ℕ) → 0 < places → places + 1 ≡ readings → fitsRun places readings ≡ true
 unfolding fitsRun
 fits-run places readings h e = rw (lt-ltb 0 places h, eq-eqb (places + 1) readings e) refl

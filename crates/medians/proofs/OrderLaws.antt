@@ -1,4 +1,4 @@
--- The order of differences is a strict weak one: of two values at most one is ahead of the other, and standing level is transitive. Assumes nothing.
+-- The order of differences is a strict weak one: of two values at most one is ahead of the other, and to be level is transitive. Assumes nothing.
 use mathlib.Core.Path.{_≡_, refl, sym, _∙_, subst}
 use mathlib.Core.Bool.{Bool, true, false, not, _||_, true≢false, false≢true}
 use lib.Dec.{T}
@@ -46,7 +46,7 @@ nan-ahead nan = refl
 nan-ahead (inf s) = refl
 nan-ahead (fin s m e) = refl
 
--- v ahead of x, y not ahead of x: v ahead of y
+-- where `v` is ahead of `x` and `y` is not ahead of `x`, `v` is ahead of `y`
 numbers-ahead : (v x y : Float) → T (number x) → T (number y) → ahead v x ≡ true → ahead y x ≡ false → ahead v y ≡ true
 numbers-ahead v x y p q h k =
     ahead-of-number v y q
@@ -71,7 +71,7 @@ ahead-of-later v (fin s m e) nan h k = ahead-of-nan v ∙ is-true (number v) (ah
 ahead-of-later v (fin s m e) (inf t) h k = numbers-ahead v (fin s m e) (inf t) tt tt h k
 ahead-of-later v (fin s m e) (fin t n d) h k = numbers-ahead v (fin s m e) (fin t n d) tt tt h k
 
--- at most one of two is ahead
+-- of two values at most one is ahead of the other
 numbers-apart : (x y : Float) → T (number x) → T (number y) → ahead x y ≡ true → ahead y x ≡ true → ⊥
 numbers-apart x y p q h k = lt-not-le x y (holds (sym (ahead-of-number x y q) ∙ h)) (lt→le y x (holds (sym (ahead-of-number y x p) ∙ k)))
 
@@ -92,7 +92,7 @@ none-ahead-of-itself x = side (ahead x x) refl
     side true k = one-ahead x x k
     side false k = k
 
--- z not ahead of y, y not ahead of x: z not ahead of x
+-- where `z` is not ahead of `y` and `y` is not ahead of `x`, `z` is not ahead of `x`
 pub not-ahead-twice : (x y z : Float) → ahead y x ≡ false → ahead z y ≡ false → ahead z x ≡ false
 not-ahead-twice x y z h k = side (ahead z x) refl
   where

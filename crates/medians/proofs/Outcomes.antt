@@ -1,8 +1,8 @@
--- What `median_difference` promises leaves one answer and one run. Assumes nothing.
+-- The contract of `median_difference` allows one answer and one area. Assumes nothing.
 use mathlib.Core.Path.{_≡_}
 use mathlib.Core.List.{List}
 use lib.Ieee.{Float}
-use Rattle.floats.proofs.Outcomes.{one-outcome}
+use Rattle.logic.proofs.Laws.{one-outcome}
 use Rattle.medians.specs.Median.{Found}
 
 pub found-once : {channel before y z : List Float} {r s : Float} → Found channel before y r → Found channel before z s → (r ≡ s) × (y ≡ z)

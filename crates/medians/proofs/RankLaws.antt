@@ -1,4 +1,4 @@
--- The value at a place of the list in order, by counts and by patterns. Assumes nothing.
+-- The value of a rank, by counts and by patterns. Assumes nothing.
 use Prim.Native.Nat.{ℕ, zero, suc, _+_, _≤_, _<_}
 use mathlib.Core.Path.{_≡_, refl, sym, ap, _∙_}
 use mathlib.Core.Bool.{Bool, true, false, not, _&&_, false≢true, true≢false}
@@ -9,6 +9,7 @@ use lib.Dec.{T, ltb}
 use lib.ListN.{length, getD}
 use lib.Ieee.{Float, nan, inf, fin, binary64, lt, eq, ne, fits, ofBits, toBits, isNan}
 use lib.Ieee.Bits.{is-true}
+use Rattle.logic.proofs.Laws.{both}
 use Rattle.floats.specs.Ahead.{ahead}
 use lib.Ieee.Compare.{differs-from-itself}
 use lib.Ieee.Fits.{inf-fits}
@@ -16,7 +17,7 @@ use native.Mathlib.Nat.{le-refl, le-trans, lt-of-lt-of-le}
 use Rattle.floats.proofs.Order.Laws.{number}
 use Rattle.floats.proofs.Order.Patterns.{unsigned, pattern-order, pattern-most, pattern-of}
 use Rattle.medians.specs.Order.{sorted}
-use Rattle.medians.specs.Ranks.{count, Each, magnitude, countBelow, numbers, rankedOf, highest, Near}
+use Rattle.medians.specs.Inner.Ranks.{count, Each, magnitude, countBelow, numbers, rankedOf, highest, Near}
 use Rattle.medians.proofs.OrderLaws.{holds, ahead-of-number, ahead-of-later}
 use Rattle.medians.proofs.CountLaws.{count-most, count-least, count-implied, counts-each}
 use Rattle.medians.proofs.MagnitudeLaws.{level-equal}
@@ -25,7 +26,7 @@ use Rattle.medians.proofs.SortLaws.{sorted-rising, sorted-count, sorted
 clash : (x y k : ℕ) → x ≡ y → x ≤ k → k < y → ⊥
 clash x y k f m n = omega (arith, f, m, n)
 
--- ---- by counts: at most k are ahead of it, and more are not behind it
+-- ---- by counts: `v` is the value of the rank `k` where at most `k` values are ahead of it, and more are not behind it
 module _ (xs : List Float) (k : ℕ) (v : Float) (inside : k < length xs) (few : count (λ (y : Float). ahead y v) xs ≤ k) (many : k < count (λ (y : Float). not (ahead v y)) xs) where
   w : Float
   w = rankedOf xs k
@@ -59,7 +60,7 @@ module _ (xs : List Float) (k : ℕ) (v : Float) (inside : k < length xs) (few :
   unfolding w
   by-counts m g = level-equal v (rankedOf xs k) g (counts-each (λ q. sorted-count q xs) m .each k in-sorted) not-ahead not-behind
 
--- and so it is of the value at place k
+-- the value of the rank `k` has at most `k` values ahead of it, and more that are not behind it
 module _ (xs : List Float) (k : ℕ) (inside : k < length xs) where
   in-order : k < length (sorted xs)
   in-order = omega (arith, inside, sorted-length xs)
@@ -75,15 +76,11 @@ record Held (y : Float) : Type 0 where
   clear : unsigned y ≡ true
   held : T (fits binary64 y)
 
-pub both-parts : (a b : Bool) → (a && b) ≡ true → (a ≡ true) × (b ≡ true)
-both-parts true b e = (refl, e)
-both-parts false b e = absurd (false≢true e)
-
 held-number : (y : Float) → magnitude y ≡ true → isNan y ≡ false → Held y
 unfolding magnitude unsigned isNan
 held-number nan m n = absurd (true≢false n)
 held-number (inf s) m n = record { clear = m; held = inf-fits binary64 s }
-held-number (fin s k e) m n = let b = both-parts (not s) (fits binary64 (fin s k e)) m in record { clear = b .0; held = holds (b .1) }
+held-number (fin s k e) m n = let b = both (not s) (fits binary64 (fin s k e)) m in record { clear = b .0; held = holds (b .1) }
 
 is-number : (x : Float) → isNan x ≡ false → T (number x)
 unfolding isNan
@@ -91,7 +88,7 @@ is-number nan e = absurd (true≢false e)
 is-number (inf s) e = tt
 is-number (fin s m k) e = tt
 
--- a number below a pattern's value has a lower pattern
+-- a number is below the value of the pattern `p` where its own pattern is lower
 pub below-pattern : (y : Float) (p : ℕ) → magnitude y ≡ true → isNan y ≡ false → p ≤ highest → lt y (ofBits binary64 p) ≡ ltb (toBits binary64 y) p
 below-pattern y p m n h =
     let a = held-number y m n in
@@ -110,7 +107,7 @@ nan-below-none nan x e = refl
 nan-below-none (inf s) x e = absurd (false≢true e)
 nan-below-none (fin s m k) x e = absurd (false≢true e)
 
--- what is below something is a number
+-- a value that is below another is a number
 pub below-number : (y x : Float) → lt y x ≡ true → isNan y ≡ false
 below-number y x e = side (isNan y) refl
   where
@@ -135,7 +132,7 @@ pattern-magnitude p h = let b = pattern-of p h in value (ofBits binary64 p) (b .
     value (inf s) c f = c
     value (fin s k e) c f = rw (c, is-true (fits binary64 (fin s k e)) f) refl
 
--- two patterns' values stand as the patterns do
+-- the values of two patterns stand in the order of the patterns
 pub pattern-below : (p q : ℕ) → p ≤ highest → q ≤ highest → lt (ofBits binary64 p) (ofBits binary64 q) ≡ ltb p q
 pattern-below p q h k = let b = pattern-of p h in below-pattern (ofBits binary64 p) q (pattern-magnitude p h) (b .number) k ∙ ap (λ (x : ℕ). ltb x q) (b .back)
 
@@ -161,7 +158,7 @@ itself-number (fin s m d) e = refl
 within : (a b : ℕ) → a < b + 1 → a ≤ b
 within a b h = omega (arith, h)
 
--- ---- the value
+-- ---- the value of the rank `k`
 module _ (xs : List Float) (m : Each magnitude xs) (k : ℕ) (inside : k < length xs) where
   pub near-nan : numbers xs ≤ k → nan ≡ rankedOf xs k
   unfolding ahead isNan lt

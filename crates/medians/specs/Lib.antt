@@ -1,3 +1,3 @@
 pub mod Order
 pub mod Median
-pub mod Ranks
+pub mod Inner

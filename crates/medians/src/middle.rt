@@ -1,10 +1,10 @@
-// The median of a channel's differences.
+// The median of a channel's differences, from the two middle ones.
 ghost use mathlib.Core.Path.{_≡_};
 ghost use mathlib.Core.Bool.{false};
 ghost use Prim.Native.Nat.{_+_, _-_, _≤_, _<_};
 ghost use lib.ListN.{length, replicate};
 ghost use Rattle.floats.specs.Numbers.{+0};
-ghost use Rattle.medians.specs.Ranks.{Each, magnitude, rankedOf, Around, wide, middlesOf};
+ghost use Rattle.medians.specs.Inner.Ranks.{Each, magnitude, rankedOf, Around, wide, middlesOf};
 ghost use Rattle.medians.specs.Median.{differences, median, fitsRun, Found};
 use crate::Bracket;
 use crate::Middles;
@@ -18,10 +18,10 @@ use crate::rank::sampled;
 use areas::clear_floats;
 use floats::from_bits;
 
-// The most values of a bracket that are copied aside and put in order.
+// The most values of a bracket that are copied aside and searched by themselves.
 const GATHERED: usize = 64;
 
-// Cost: one turn for each difference.
+// Sets `run` to the magnitudes of the differences of `channel`. Cost: one turn for each difference.
 fn difference(channel: &[f64], run: &mut [f64])
     requires { ⌜ length (now run) + 1 ≡ length (now channel) ⌝ }
     ensures { λ r. ⌜ now (run .exit) ≡ differences (now (channel .entry)) ⌝ }
@@ -33,7 +33,8 @@ fn difference(channel: &[f64], run: &mut [f64])
     }
 }
 
-// The values at two places, each found by itself. Cost: those of finding one value by its rank, or two.
+// The values of the ranks `first` and `second` in `run`, each found by itself. Cost: that of finding one
+// value by its rank, or two.
 fn one_by_one(run: &[f64], first: usize, second: usize) -> Middles
     requires { ⌜ (first < length (now run)) × (second < length (now run)) × Each magnitude (now run) ⌝ }
     ensures { λ r. ⌜ (r .low ≡ rankedOf (now (run .entry)) first) × (r .high ≡ rankedOf (now (run .entry)) second) ⌝ }
@@ -46,7 +47,8 @@ fn one_by_one(run: &[f64], first: usize, second: usize) -> Middles
     Middles { low, high }
 }
 
-// The values at two places within a bracket that has few values: they are found among those alone.
+// The values of the ranks `first` and `second` in `run`, which lie within the bracket `b` of at most 64
+// values: they are found among those alone.
 fn among_few(run: &[f64], b: Bracket, first: usize, second: usize) -> Middles
     requires { ⌜ Around (now run) first b × (first ≤ second) × (second < b .upto) × (b .upto - b .under ≤ 64) × Each magnitude (now run) ⌝ }
     ensures { λ r. ⌜ (r .low ≡ rankedOf (now (run .entry)) first) × (r .high ≡ rankedOf (now (run .entry)) second) ⌝ }
@@ -61,7 +63,8 @@ fn among_few(run: &[f64], b: Bracket, first: usize, second: usize) -> Middles
     Middles { low, high }
 }
 
-// The values at two places within a bracket. One that has many values has one pattern.
+// The values of the ranks `first` and `second` in `run`, which lie within the bracket `b`. If it has
+// more than 64 values it has one pattern, so both are that pattern's.
 fn within_bracket(run: &[f64], b: Bracket, first: usize, second: usize) -> Middles
     requires { ⌜ Around (now run) first b × (wide b 1 64 ≡ false) × (first ≤ second) × (second < b .upto) × Each magnitude (now run) ⌝ }
     ensures { λ r. ⌜ (r .low ≡ rankedOf (now (run .entry)) first) × (r .high ≡ rankedOf (now (run .entry)) second) ⌝ }
@@ -76,9 +79,10 @@ fn within_bracket(run: &[f64], b: Bracket, first: usize, second: usize) -> Middl
     }
 }
 
-// A bracket around the value at a place that has one pattern or at most 64 values. Where more values lie
-// within 2^46 patterns, most are likely to be equal. Cost: some 8 passes over a long run, some 20 where many
-// values are equal, and at most 68, beside those over its first 256 values.
+// A bracket within `start`, around the value of the rank `place` in `run`, that has one pattern or at
+// most 64 values. Where more values lie within 2^46 patterns, most are likely to be equal. Cost: some 8
+// passes over a long `run`, some 20 where many values are equal, and at most 68, beside those over its
+// first 256 values.
 fn near_middle(run: &[f64], place: usize, start: Bracket) -> Bracket
     requires { ⌜ Around (now run) place start × (256 ≤ length (now run)) × Each magnitude (now run) ⌝ }
     ensures { λ r. ⌜ Around (now (run .entry)) place r × (wide r 1 64 ≡ false) ⌝ }
@@ -96,8 +100,8 @@ fn near_middle(run: &[f64], place: usize, start: Bracket) -> Bracket
     narrowed(run, place, guessed(run, place, b), 1, GATHERED)
 }
 
-// The two middle values of a run. Cost: that of a bracket around them, and at most twice that of finding a
-// value by its rank.
+// The two middle values of `run` in order. Cost: that of a bracket around them, and at most twice that
+// of finding a value by its rank.
 fn middles(run: &[f64]) -> Middles
     requires { ⌜ (0 < length (now run)) × Each magnitude (now run) ⌝ }
     ensures { λ r. ⌜ r ≡ middlesOf (now (run .entry)) ⌝ }
@@ -118,7 +122,7 @@ fn middles(run: &[f64]) -> Middles
     within_bracket(run, b, first, second)
 }
 
-// The median of one difference or more, worked out in a run that is +0 afterwards.
+// The median of the differences of `channel`, at least one, worked out in `run`, which is +0 afterwards.
 fn worked_out(channel: &[f64], run: &mut [f64]) -> f64
     requires { ⌜ (length (now run) + 1 ≡ length (now channel)) × (0 < length (now run)) ⌝ }
     ensures { λ r. ⌜ (r ≡ median (differences (now (channel .entry)))) × (now (run .exit) ≡ replicate (length (now (run .entry))) +0) ⌝ }
@@ -133,7 +137,8 @@ fn worked_out(channel: &[f64], run: &mut [f64]) -> f64
     0.5 * (two.low + two.high)
 }
 
-// Whether a run of so many places has one for each difference of these readings, and at least one.
+// Whether an area of `places` floats has exactly one for each difference of `readings` readings, and at
+// least one.
 fn fits(places: usize, readings: usize) -> bool
     ensures { λ r. ⌜ r ≡ fitsRun places readings ⌝ }
 {
@@ -145,8 +150,10 @@ fn fits(places: usize, readings: usize) -> bool
     false
 }
 
-// The median of the differences, worked out in a run with a place for each, which is +0 afterwards.
-// Cost: some 9 passes over the run, and at most 63 for each of the two middle values.
+// The median of the magnitudes of the differences of `channel`, worked out in `run`, which has one float
+// for each difference and is +0 afterwards; where it does not fit, NaN, and `run` stays. Cost: some 9
+// passes over a `run` of more than 256 floats, at most 69, and at most 65 more for each of the two
+// middle values where `run` is shorter or they are not finite or lie in different brackets.
 pub fn median_difference(channel: &[f64], run: &mut [f64]) -> f64
     ensures { λ r. ⌜ Found (now (channel .entry)) (now (run .entry)) (now (run .exit)) r ⌝ }
 {

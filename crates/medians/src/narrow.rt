@@ -1,11 +1,12 @@
-// Brackets around the value at a place of a run in order, by bit patterns: the run is only counted.
+// Brackets of bit patterns around the value of a rank in a list, whose values are only counted and never
+// put in order.
 ghost use mathlib.Core.Path.{_≡_};
 ghost use mathlib.Core.Bool.{false};
 ghost use Prim.Native.Nat.{_-_, _≤_, _<_};
-ghost use Rattle.medians.specs.Ranks.{countBelow, highest, Around, wide};
+ghost use Rattle.medians.specs.Inner.Ranks.{countBelow, highest, Around, wide};
 use crate::Bracket;
 
-// How many values are below x. Cost: one turn for each value.
+// How many values of `run` are below `x`. Cost: one turn for each value.
 pub(crate) fn count_below(run: &[f64], x: f64) -> usize
     ensures { λ r. ⌜ r ≡ countBelow x (now (run .entry)) ⌝ }
 {
@@ -21,7 +22,7 @@ pub(crate) fn count_below(run: &[f64], x: f64) -> usize
     count
 }
 
-// The bracket from 0 up to infinity.
+// The bracket from 0 up to infinity, with `upto` values below infinity.
 pub(crate) fn widest(upto: usize) -> Bracket
     ensures { λ r. ⌜ (r .low ≡ 0) × (r .high ≡ highest) × (r .under ≡ 0) × (r .upto ≡ upto) ⌝ }
 {
@@ -33,7 +34,8 @@ pub(crate) fn widest(upto: usize) -> Bracket
     }
 }
 
-// The part of a bracket below a pattern, or the part from it on. Cost: one pass over the run.
+// The part of the bracket `b` below `pattern`, or the part that begins with it: the one in which the
+// value of the rank `place` in `run` lies. Cost: one pass over `run`.
 fn split(run: &[f64], place: usize, b: Bracket, pattern: u64) -> Bracket
     requires { ⌜ Around (now run) place b × (b .low < pattern) × (pattern < b .high) ⌝ }
     ensures { λ r. ⌜ Around (now (run .entry)) place r × (r .high - r .low < b .high - b .low) ⌝ }
@@ -55,7 +57,8 @@ fn split(run: &[f64], place: usize, b: Bracket, pattern: u64) -> Bracket
     }
 }
 
-// The same at any pattern: one that does not lie within the bracket leaves it as it is.
+// The same for any `pattern`: one that does not lie within `b`, the bracket around the value of the rank
+// `place` in `run`, leaves it as it is.
 pub(crate) fn tried(run: &[f64], place: usize, b: Bracket, pattern: u64) -> Bracket
     requires { ⌜ Around (now run) place b ⌝ }
     ensures { λ r. ⌜ Around (now (run .entry)) place r ⌝ }
@@ -68,7 +71,7 @@ pub(crate) fn tried(run: &[f64], place: usize, b: Bracket, pattern: u64) -> Brac
     b
 }
 
-// Whether a bracket has more than enough patterns and more than enough values.
+// Whether the bracket `b` has more than `patterns` patterns and more than `values` values.
 fn is_wide(b: Bracket, patterns: u64, values: usize) -> bool
     requires { ⌜ (b .low ≤ b .high) × (b .under ≤ b .upto) ⌝ }
     ensures { λ r. ⌜ r ≡ wide b patterns values ⌝ }
@@ -76,8 +79,9 @@ fn is_wide(b: Bracket, patterns: u64, values: usize) -> bool
     (patterns < b.high - b.low) & (values < b.upto - b.under)
 }
 
-// The bracket halved until it has few enough patterns or few enough values. Cost: at most 63 turns, each
-// one pass over the run, whatever its order.
+// The bracket `start`, around the value of the rank `place` in `run`, halved until it has at most
+// `patterns` patterns or at most `values` values. Cost: at most 63 turns, each one pass over `run`,
+// whatever its order.
 pub(crate) fn narrowed(
     run: &[f64],
     place: usize,

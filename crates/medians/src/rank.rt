@@ -1,15 +1,15 @@
-// The value at a place of a run in order, found by its bit pattern without putting the run in order.
+// The value of a rank in a list, found by its bit pattern without putting the list in order.
 ghost use mathlib.Core.Path.{_≡_};
 ghost use Prim.Native.Nat.{_≤_, _<_};
 ghost use lib.ListN.{length, take};
-ghost use Rattle.medians.specs.Ranks.{Each, magnitude, count, numbers, rankedOf, Around, inBracket, passing};
+ghost use Rattle.medians.specs.Inner.Ranks.{Each, magnitude, count, numbers, rankedOf, Around, inBracket, passing};
 use crate::Bracket;
 use crate::narrow::count_below;
 use crate::narrow::narrowed;
 use crate::narrow::tried;
 use crate::narrow::widest;
 
-// How many values are not NaN. Cost: one turn for each value.
+// How many values of `run` are not NaN. Cost: one turn for each value.
 fn count_numbers(run: &[f64]) -> usize
     ensures { λ r. ⌜ r ≡ numbers (now (run .entry)) ⌝ }
 {
@@ -25,8 +25,8 @@ fn count_numbers(run: &[f64]) -> usize
     count
 }
 
-// The value at a place of the run in order, of which none has a sign. Cost: at most 65 passes over the
-// run, whatever its order.
+// The value of the rank `place` in `run`, of whose values none has a sign. Cost: at most 65 passes over
+// `run`, whatever its order.
 pub(crate) fn ranked(run: &[f64], place: usize) -> f64
     requires { ⌜ (place < length (now run)) × Each magnitude (now run) ⌝ }
     ensures { λ r. ⌜ r ≡ rankedOf (now (run .entry)) place ⌝ }
@@ -42,16 +42,17 @@ pub(crate) fn ranked(run: &[f64], place: usize) -> f64
     floats::from_bits(narrowed(run, place, widest(finite), 1, 0).low)
 }
 
-// Whether a value is below high and not below low.
+// Whether `value` is below `high` and not below `low`.
 fn is_between(value: f64, low: f64, high: f64) -> bool
     ensures { λ r. ⌜ r ≡ inBracket low high value ⌝ }
 {
     (value < high) & !(value < low)
 }
 
-// Copies the values from low up to high into a part, and says how many they are. A value is stored before
-// it is known whether it is one of them, which saves a branch that would be guessed wrong every other
-// turn; so the part has a place more than they take. Cost: one turn for each value.
+// Copies the values of `run` from `low` up to `high` to the front of `part`, and returns how many they
+// are. A value is stored before it is known whether it is one of them, which saves a branch that would
+// be guessed wrong every other turn; so `part` has at least one float more than they take. Cost: one
+// turn for each value.
 pub(crate) fn gather(run: &[f64], low: f64, high: f64, part: &mut [f64]) -> usize
     requires { ⌜ count (inBracket low high) (now run) < length (now part) ⌝ }
     ensures { λ r. ⌜ (r ≡ length (passing (inBracket low high) (now (run .entry)))) × (take r (now (part .exit)) ≡ passing (inBracket low high) (now (run .entry))) ⌝ }
@@ -69,8 +70,8 @@ pub(crate) fn gather(run: &[f64], low: f64, high: f64, part: &mut [f64]) -> usiz
     size
 }
 
-// The first value from low up to high, or NaN. It is only tried, so nothing is promised of it. Cost: one
-// turn for each value up to it.
+// The first value of `run` from `low` up to `high`, or NaN. It is only tried, so nothing is promised of
+// it. Cost: one turn for each value up to it.
 fn first_between(run: &[f64], low: f64, high: f64) -> f64 {
     let mut i = 0;
     while i < run.len() {
@@ -83,8 +84,9 @@ fn first_between(run: &[f64], low: f64, high: f64) -> f64 {
     0.0 / 0.0
 }
 
-// The bracket split at the first of its values and just above it, which leaves equal values alone if most
-// of its values are those. Cost: at most three passes over the run.
+// The bracket `b`, around the value of the rank `place` in `run`, split at the first of its values and
+// just above it, which leaves equal values alone if most of its values are those. Cost: at most three
+// passes over `run`.
 pub(crate) fn guessed(run: &[f64], place: usize, b: Bracket) -> Bracket
     requires { ⌜ Around (now run) place b ⌝ }
     ensures { λ r. ⌜ Around (now (run .entry)) place r ⌝ }
@@ -98,8 +100,9 @@ pub(crate) fn guessed(run: &[f64], place: usize, b: Bracket) -> Bracket
     b
 }
 
-// A bracket of some 16 values around the one at a place of a sample, or the widest where that one is not
-// finite. Its ends are only tried, so nothing is promised of them. Cost: at most 18 passes over the sample.
+// A bracket of some 16 values around the one of the rank `place` in `sample`, or the widest where that
+// one is not finite. Its ends are only tried, so nothing is promised of them. Cost: at most 18 passes
+// over `sample`.
 fn around_rank(sample: &[f64], place: usize) -> Bracket
     requires { ⌜ Each magnitude (now sample) ⌝ }
 {
@@ -111,9 +114,9 @@ fn around_rank(sample: &[f64], place: usize) -> Bracket
     narrowed(sample, place, all, 0x4000_0000_0000, 16)
 }
 
-// The bracket split where the first 256 values have two fifths and three fifths below: where the values have
-// no order, the middle of the run is likely to lie between. Cost: two passes over the run, and at most 36
-// over those 256 values.
+// The bracket `b`, around the value of the rank `place` in `run`, split where the first 256 values have
+// two fifths and three fifths below: where the values have no order, the middle is likely to lie
+// between. Cost: two passes over `run`, and at most 36 over those 256 values.
 pub(crate) fn sampled(run: &[f64], place: usize, b: Bracket) -> Bracket
     requires { ⌜ Around (now run) place b × (256 ≤ length (now run)) × Each magnitude (now run) ⌝ }
     ensures { λ r. ⌜ Around (now (run .entry)) place r ⌝ }

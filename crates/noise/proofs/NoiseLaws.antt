@@ -1,4 +1,4 @@
--- Laws of the noise variance: fewer than 2 readings, the room for the differences, and the places that are cleared. Assumes nothing.
+-- Laws of the noise variance: fewer than 2 readings, the room for the differences, and the part that is cleared. Assumes nothing.
 use Prim.Native.Nat.{ℕ, _+_, _-_, _*_, _≤_, _<_}
 use mathlib.Core.Path.{_≡_, refl, sym, ap, ap₂, _∙_}
 use mathlib.Core.Bool.{Bool, true, false, cond}
@@ -52,7 +52,7 @@ room-is : (size n place : ℕ) → place + (n - 1) ≤ size → hasRoom size n p
 unfolding hasRoom
 room-is size n place h = le-leb (place + (n - 1)) size h
 
--- ---- the places cleared
+-- ---- the part that is cleared
 pub nothing-cleared : (area : List Float) (n place : ℕ) → n < 2 → area ≡ cleared area n place
 unfolding cleared
 nothing-cleared area n place h =
@@ -67,7 +67,7 @@ part-cleared area ys n place k h e f =
     let g : ys ≡ replicate k +0 = f ∙ ap (λ (m : ℕ). replicate m +0) (part-length area place k (omega arith)) in
     rw (g, drop-drop k place area, e)
 
--- the median by way of those places
+-- the median by way of the `k` floats at `place`
 pub part-median : (channel area ys : List Float) (place k : ℕ) {r : Float} → place + (length channel - 1) ≤ length area → 2 ≤ length channel → k ≡ length channel - 1 → Found channel (take k (drop place area)) ys r
     → (r ≡ median (differences channel)) × (ys ≡ replicate (length (take k (drop place area))) +0)
 unfolding part
@@ -82,7 +82,7 @@ place-cleared area ys n place k h e s =
     sym (take-append-drop place ys)
     ∙ ap₂ _++_ (r .frame .front) (sym (take-append-drop (n - 1) (drop place ys)) ∙ ap₂ _++_ (cleared-part r h) (drop-drop (n - 1) place ys ∙ r .frame .back))
 
--- what is cleared is +0 there, and clearing no more than that changes nothing
+-- what is cleared is +0 there, and clearing a part of it again changes nothing
 take-replicate : (j k : ℕ) (v : Float) → j ≤ k → take j (replicate k v) ≡ replicate j v
 take-replicate j k v h =
     let e : j + (k - j) ≡ k = omega arith in

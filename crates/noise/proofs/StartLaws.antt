@@ -1,4 +1,4 @@
--- No noise variance is -0, so that their sum over the channels is the same from either zero on. Assumes nothing.
+-- No noise variance is -0, so that their sum over the channels is the same whichever zero it starts at. Assumes nothing.
 use mathlib.Core.Path.{_≡_}
 use mathlib.Core.Bool.{Bool, true, false, cond}
 use mathlib.Core.List.{List}

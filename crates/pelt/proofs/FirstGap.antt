@@ -12,26 +12,28 @@ use Rattle.readings.specs.Shape.{firstLength}
 use Rattle.readings.specs.FirstGap.{readingOf, FirstGap}
 use Rattle.readings.proofs.FirstGapLaws.{reading-at}
 use Rattle.search_answer.proofs.AdmissionLaws.{Shapely}
-use Rattle.search_answer.specs.declared.Searched.the-variants as Searched
+use Rattle.refusals.specs.declared.Answer.{Answer}
+use Rattle.refusals.specs.declared.Answer.the-variants as Answer
+use Rattle.search_answer.specs.Outcome.{Areas}
 use Rattle.search_answer.proofs.FrontLaws.{detected-gap}
 use Rattle.pelt.specs.declared.Pelt.{Pelt}
-use Rattle.pelt.specs.Detected.{Detected}
+use Rattle.pelt.specs.Detected.{detected}
 use Rattle.pelt.specs.Promise.{FirstGapOfOne}
 
-module _ (p : Pelt) (readings : List Float) {cuts cuts′ : List ℕ} {floats floats′ : List Float} {indices indices′ : List ℕ} {pool pool′ : List Float} (k i : ℕ) where
+module _ (p : Pelt) (readings : List Float) (before after : Areas) (k i : ℕ) where
   -- `detect_multi_strict`
-  pub detect-multi-strict-gap : (lengths : List ℕ) → Detected true p readings lengths cuts cuts′ floats floats′ indices indices′ pool pool′ (Searched.Refused (Refusal.NonFinite k i)) → FirstGap readings (length lengths) (firstLength lengths) k i
-  detect-multi-strict-gap lengths d = detected-gap true (p .cost) (p .penalty) (p .«min_segment_len») readings lengths k i d .first
+  pub detect-multi-strict-gap : (lengths : List ℕ) → _≡_ {A = Answer × Areas} (Answer.Refused (Refusal.NonFinite k i), after) (detected true p readings lengths before) → FirstGap readings (length lengths) (firstLength lengths) k i
+  detect-multi-strict-gap lengths d = detected-gap true (p .cost) (p .penalty) (p .«min_segment_len») readings lengths before after k i d .first
 
   -- `detect_multi`
-  pub detect-multi-no-gap : (lengths : List ℕ) → Detected false p readings lengths cuts cuts′ floats floats′ indices indices′ pool pool′ (Searched.Refused (Refusal.NonFinite k i)) → ⊥
-  detect-multi-no-gap lengths d = false≢true (detected-gap false (p .cost) (p .penalty) (p .«min_segment_len») readings lengths k i d .is-strict)
+  pub detect-multi-no-gap : (lengths : List ℕ) → _≡_ {A = Answer × Areas} (Answer.Refused (Refusal.NonFinite k i), after) (detected false p readings lengths before) → ⊥
+  detect-multi-no-gap lengths d = false≢true (detected-gap false (p .cost) (p .penalty) (p .«min_segment_len») readings lengths before after k i d .is-strict)
 
   -- `detect_strict`
-  pub detect-strict-gap : Detected true p readings (length readings ∷ []) cuts cuts′ floats floats′ indices indices′ pool pool′ (Searched.Refused (Refusal.NonFinite k i)) → FirstGapOfOne readings k i
+  pub detect-strict-gap : _≡_ {A = Answer × Areas} (Answer.Refused (Refusal.NonFinite k i), after) (detected true p readings (length readings ∷ []) before) → FirstGapOfOne readings k i
   detect-strict-gap d =
       let n = length readings in
-      let gap = detected-gap true (p .cost) (p .penalty) (p .«min_segment_len») readings (n ∷ []) k i d in
+      let gap = detected-gap true (p .cost) (p .penalty) (p .«min_segment_len») readings (n ∷ []) before after k i d in
       let zero : k ≡ 0 = omega (arith, gap .first .channel-within) in
       let one = one-channel (gap .shape) in
       record {
@@ -45,5 +47,5 @@ module _ (p : Pelt) (readings : List Float) {cuts cuts′ : List ℕ} {floats fl
       one-channel s j h = reading-at readings 1 (length readings) (s .few) (s .short) (s .fill) 0 j (omega arith) h ∙ ap (λ (at : ℕ). getD readings at nan) (omega arith)
 
   -- `detect`
-  pub detect-no-gap : Detected false p readings (length readings ∷ []) cuts cuts′ floats floats′ indices indices′ pool pool′ (Searched.Refused (Refusal.NonFinite k i)) → ⊥
+  pub detect-no-gap : _≡_ {A = Answer × Areas} (Answer.Refused (Refusal.NonFinite k i), after) (detected false p readings (length readings ∷ []) before) → ⊥
   detect-no-gap d = detect-multi-no-gap (length readings ∷ []) d

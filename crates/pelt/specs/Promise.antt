@@ -9,12 +9,12 @@ use Rattle.floats.specs.Finite.{finite}
 use Rattle.search_answer.specs.Demand.{Cut}
 use Rattle.pelt.specs.declared.Pelt.{Pelt}
 
--- so many cuts of n readings stand in the front of the lent area, as demand 2 says
+-- `count` cuts of `n` readings stand in the front of the lent area, `cuts′`, as demand 2 says
 pub record CutsInFront (p : Pelt) (n count : ℕ) (cuts′ : List ℕ) : Type 0 where
   pub many : length (take count cuts′) ≡ count
   pub cut : Cut (p .«min_segment_len») n (take count cuts′)
 
--- of one channel, which is channel 0: reading i is not finite, and all before it are
+-- of one channel, which is channel 0: reading `i` of `readings` is not finite, and all before it are
 pub record FirstGapOfOne (readings : List Float) (channel i : ℕ) : Type 0 where
   pub channel-zero : channel ≡ 0
   pub index-within : i < length readings

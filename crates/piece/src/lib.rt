@@ -15,23 +15,20 @@ use refusals::Refusal;
 use segment_of::segment_of;
 use sums::mean;
 
+// A piece: `length` readings, their `mean`, and their `spread`, the L2 cost divided by the length.
 pub struct PieceSummary {
     pub length: usize,
     pub mean: f64,
     pub spread: f64,
 }
 
+// The answer of `summary`.
 pub enum Summarised {
     Piece(PieceSummary),
     Refused(Refusal),
 }
 
-// The sums of some first readings of a channel, and of their squares, each less the channel's mean.
-pub struct Running {
-    pub sum: f64,
-    pub sum_of_squares: f64,
-}
-
+// The summary of `channel[start..end]`, by the sums of that segment about the mean of `channel`.
 fn summarise(channel: &[f64], start: usize, end: usize) -> PieceSummary
     requires { ⌜ (start < end) × (end ≤ length (now channel)) ⌝ }
     ensures { λ r. ⌜ r ≡ summaryOf (now (channel .entry)) start end ⌝ }
@@ -45,8 +42,8 @@ fn summarise(channel: &[f64], start: usize, end: usize) -> PieceSummary
     }
 }
 
-// Of the readings from start up to end, without end. Cost: one pass over the channel for its mean, and
-// one up to end.
+// The summary of the piece `channel[start..end]`, or a refusal: 6 for more readings than the limit, 12
+// for no such piece. Cost: one pass over `channel` for its mean, and one up to `end`.
 pub fn summary(channel: &[f64], start: usize, end: usize) -> Summarised
     ensures { λ r. ⌜ r ≡ summarisedAs (now (channel .entry)) start end ⌝ }
 {

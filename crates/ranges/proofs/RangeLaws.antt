@@ -1,4 +1,4 @@
--- Laws of the extremes: each takes in one more reading, and readings within the range change neither. Assumes nothing.
+-- Laws of the lowest and the highest reading: each takes in one more reading, and readings within the range change neither. Assumes nothing.
 use Prim.Native.Nat.{ℕ, zero, suc, _+_, _-_, _≤_, _<_}
 use mathlib.Core.Path.{_≡_, refl, sym, ap, ap₂, _∙_}
 use mathlib.Core.Bool.{Bool, true, false, cond, _||_, true≢false, false≢true}
@@ -14,7 +14,7 @@ use lib.Ieee.Compare.{differs-from-itself}
 use Rattle.floats.specs.MaxMin.{larger, smaller}
 use Rattle.ranges.specs.declared.Range.{Range}
 use Rattle.ranges.specs.Ranges.{lowestTo, highestTo, rangeOf}
-use Rattle.ranges.specs.Blocks.{beyond, Within, Taken}
+use Rattle.ranges.specs.Inner.Blocks.{beyond, Within, Taken}
 
 pub lowest-more : (xs : List Float) (i : ℕ) (m : Float) → m ≡ lowestTo xs i → smaller m (getD xs i nan) ≡ lowestTo xs (i + 1)
 unfolding lowestTo
@@ -24,9 +24,9 @@ pub highest-more : (xs : List Float) (i : ℕ) (m : Float) → m ≡ highestTo x
 unfolding highestTo
 highest-more xs i m e = rw (add-one, e)
 
--- ---- neither is NaN
+-- ---- neither the lowest nor the highest is NaN
 module _ (before : Float → Float → Bool) (number : (x y : Float) → before x y ≡ true → ne x x ≡ false) where
-  -- the first of two, NaN passed over
+  -- `x` where it is `before` `m` or `m` is NaN, and `m` otherwise
   abbrev pick : Float → Float → Float
   pick m x = cond (before x m) x (cond (ne m m) x m)
 
@@ -74,7 +74,7 @@ highest-number xs zero = refl
 highest-number xs (suc i) = pick-number (λ (x m : Float). lt m x) higher-number (highestTo xs i) (getD xs i nan) (highest-number xs i)
 
 -- ---- readings within the range
--- what no step from i on changes is the same further on
+-- an `f` that no step from `i` up to `i + n` changes is the same at both
 same-on : (f : ℕ → Float) (i n : ℕ) → ((d : ℕ) → d < n → f (i + d) ≡ f i → f (suc (i + d)) ≡ f i) → f (i + n) ≡ f i
 same-on f i zero h = let z : i + 0 ≡ i = omega arith in ap f z
 same-on f i (suc n) h = let z : i + suc n ≡ suc (i + n) = omega arith in ap f z ∙ h n (omega arith) (same-on f i n (λ d l. h d (omega (arith, l))))

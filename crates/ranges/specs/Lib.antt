@@ -1,2 +1,2 @@
 pub mod Ranges
-pub mod Blocks
+pub mod Inner

@@ -2,24 +2,23 @@
 //
 // No function asks anything of its caller. Each result is, to the bit, that of the definition which
 // its contract names (`specs/Ranges`). Blocks of readings that lie within the range so far are
-// passed over, which `specs/Blocks` says and `proofs/RangeLaws` shows to change nothing.
+// passed over, which `specs/Inner/Blocks` says and `proofs/RangeLaws` shows to change nothing.
 ghost use mathlib.Core.Path.{_≡_};
 ghost use mathlib.Core.Bool.{false};
 ghost use Prim.Native.Nat.{_≤_, _<_};
 ghost use lib.ListN.{length};
-ghost use Rattle.ranges.specs.Blocks.{beyond, Within, Taken};
+ghost use Rattle.ranges.specs.Inner.Blocks.{beyond, Within, Taken};
 ghost use Rattle.ranges.specs.Ranges.{rangeOf, about};
 use floats::max;
 use floats::min;
 
-// The lowest and the highest of some readings.
+// The lowest and the highest of some readings, `lo` and `hi`.
 pub struct Range {
     pub lo: f64,
     pub hi: f64,
 }
 
-// Whether one of the readings from a place up to another is beyond a range. Cost: one turn for each of
-// them.
+// Whether one of the readings `channel[start..end]` is beyond `range`. Cost: one turn for each of them.
 fn any_beyond(channel: &[f64], start: usize, end: usize, range: Range) -> bool
     requires { ⌜ (start ≤ end) × (end ≤ length (now channel)) ⌝ }
     ensures { λ r. ⌜ (r ≡ false → Within (now (channel .entry)) start end range) ⌝ }
@@ -38,14 +37,14 @@ fn any_beyond(channel: &[f64], start: usize, end: usize, range: Range) -> bool
     0 < count
 }
 
-// Whether a reading is below lo or above hi.
+// Whether `reading` is below `lo` or above `hi`.
 fn is_beyond(reading: f64, lo: f64, hi: f64) -> bool
     ensures { λ r. ⌜ r ≡ beyond lo hi reading ⌝ }
 {
     (reading < lo) | (hi < reading)
 }
 
-// The range with the readings from a place up to another taken in. Cost: one turn for each of them.
+// `range` with the readings `channel[start..end]` taken in. Cost: one turn for each of them.
 fn taken_in(channel: &[f64], start: usize, end: usize, range: Range) -> Range
     requires { ⌜ (start ≤ end) × (end ≤ length (now channel)) × Taken (now channel) start range ⌝ }
     ensures { λ r. ⌜ Taken (now (channel .entry)) end r ⌝ }
@@ -61,8 +60,8 @@ fn taken_in(channel: &[f64], start: usize, end: usize, range: Range) -> Range
     Range { lo, hi }
 }
 
-// The same, where readings within the range are passed over: few blocks of a channel have others, and to
-// look whether one has takes far less time than to take it in.
+// The same, where a block of readings within `range` is passed over: few blocks of a channel have
+// others, and to look whether one has takes far less time than to take it in.
 fn range_after(channel: &[f64], start: usize, end: usize, range: Range) -> Range
     requires { ⌜ (start ≤ end) × (end ≤ length (now channel)) × Taken (now channel) start range ⌝ }
     ensures { λ r. ⌜ Taken (now (channel .entry)) end r ⌝ }
@@ -76,7 +75,7 @@ fn range_after(channel: &[f64], start: usize, end: usize, range: Range) -> Range
 // How many readings are passed over at once where they lie within the range so far.
 const BLOCK: usize = 64;
 
-// Where a block of readings that begins at `start` ends, in a channel of `size` readings.
+// The index where the block that begins at `start` ends, in a channel of `size` readings.
 fn block_end(start: usize, size: usize) -> usize
     requires { ⌜ start < size ⌝ }
     ensures { λ r. ⌜ (start < r) × (r ≤ size) ⌝ }
@@ -87,8 +86,8 @@ fn block_end(start: usize, size: usize) -> usize
     start + BLOCK
 }
 
-// The lowest and the highest reading, NaNs passed over; +infinity and -infinity where there is no
-// reading but NaNs. Cost: one turn for each block of 64 readings.
+// The lowest and the highest reading of `channel`, NaNs passed over; +infinity and -infinity where there
+// is no reading but NaNs. Cost: one turn for each block of 64 readings.
 pub fn range_of(channel: &[f64]) -> Range
     ensures { λ r. ⌜ r ≡ rangeOf (now (channel .entry)) ⌝ }
 {
@@ -106,7 +105,7 @@ pub fn range_of(channel: &[f64]) -> Range
     range
 }
 
-// The range on the scale of the running sums: both less the mean.
+// `range` on the scale of the running sums: both its values less `mean`.
 pub fn range_about(range: Range, mean: f64) -> Range
     ensures { λ r. ⌜ r ≡ about range mean ⌝ }
 {

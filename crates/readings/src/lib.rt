@@ -14,25 +14,23 @@ mod lengths;
 mod view;
 
 pub use gaps::all_finite;
-pub use gaps::first_gap;
-pub use lengths::first_length;
 pub use lengths::shape;
 use refusals::Refusal;
 pub use view::channel_of;
 
-// What the lengths say of a run: so many channels of so many readings each, or a refusal.
+// What the lengths say of a run: `count` channels of `length` readings each, or a refusal.
 pub enum Shaped {
     Channels { count: usize, length: usize },
     Refused(Refusal),
 }
 
-// Whether all readings are finite; if not, refusal 8 with the place of the first that is not.
+// Whether all readings are finite; if not, refusal 8 with the channel and index of the first gap.
 pub enum Checked {
     Finite,
     Refused(Refusal),
 }
 
-// A flat run, and how many channels of how many readings it is taken for.
+// The view: the flat `run`, taken for `channels` channels of `length` readings each.
 pub struct Readings<'a> {
     pub run: &'a [f64],
     pub channels: usize,

@@ -1,27 +1,44 @@
 -- No two refusals are stated alike: each can be read back from its number and values. Assumes nothing.
-use Prim.Native.Nat.{ℕ, suc}
+use Prim.Native.Nat.{ℕ}
 use mathlib.Core.Path.{_≡_, refl, sym, ap, _∙_}
 use mathlib.Core.Bool.{cond}
 use mathlib.Core.List.{List, [], _∷_}
 use lib.Dec.{eqb}
 use lib.ListN.{getD}
 use Rattle.refusals.specs.Stated.{Stated, stated}
-use Rattle.refusals.specs.Said.{refused}
+use Rattle.refusals.specs.Said.{refusing, said}
 use Rattle.refusals.specs.declared.Refusal.{Refusal}
 use Rattle.refusals.specs.declared.Refusal.the-variants.{Penalty, MinLen, Channels, Shape, Unequal, TooLong, Room, NonFinite, Pool, Form, Chart, Piece}
+use Rattle.refusals.specs.declared.Answer.{Answer}
+use Rattle.refusals.specs.declared.Answer.the-variants as Answer
 
--- of a list of refusals in the order of their numbers, the one with the number n
-nth : List Refusal → ℕ → ℕ → Refusal
-nth [] k n = Penalty
-nth (r ∷ rs) k n = cond (eqb n k) r (nth rs (suc k) n)
+-- each refusal with its number, where the values that are stated are `v`; numbers may have holes
+cases : List ℕ → List (ℕ × Refusal)
+cases v =
+    (1, Penalty) ∷
+    (2, MinLen) ∷
+    (3, Channels) ∷
+    (4, Shape) ∷
+    (5, Unequal) ∷
+    (6, TooLong) ∷
+    (7, Room) ∷
+    (8, NonFinite (getD v 0 0) (getD v 1 0)) ∷
+    (9, Pool) ∷
+    (10, Form) ∷
+    (11, Chart) ∷
+    (12, Piece) ∷
+    []
+
+-- the one of these refusals with the number `n`
+numbered : List (ℕ × Refusal) → ℕ → Refusal
+numbered [] n = Penalty
+numbered (r ∷ rs) n = cond (eqb n (r .0)) (r .1) (numbered rs n)
 
 read : Stated → Refusal
-read s =
-    let v = s .values in
-    nth (Penalty ∷ MinLen ∷ Channels ∷ Shape ∷ Unequal ∷ TooLong ∷ Room ∷ NonFinite (getD v 0 0) (getD v 1 0) ∷ Pool ∷ Form ∷ Chart ∷ Piece ∷ []) 1 (s .number)
+read s = numbered (cases (s .values)) (s .number)
 
 read-back : (r : Refusal) → read (stated r) ≡ r
-unfolding read nth
+unfolding read numbered cases
 read-back Penalty = refl
 read-back MinLen = refl
 read-back Channels = refl
@@ -38,6 +55,17 @@ read-back Piece = refl
 pub stated-apart : (r q : Refusal) → stated r ≡ stated q → r ≡ q
 stated-apart r q e = sym (read-back r) ∙ ap read e ∙ read-back q
 
--- nor are two that are said as refusals
-pub refused-apart : (r q : Refusal) → refused (stated r) ≡ refused (stated q) → r ≡ q
+-- nor are two that are said as refusals, nor two answers
+pub refused-apart : (r q : Refusal) → refusing r ≡ refusing q → r ≡ q
 refused-apart r q e = let s : stated r ≡ stated q = cc in stated-apart r q s
+
+pub answers-apart : (r q : Answer) → said r ≡ said q → r ≡ q
+answers-apart (Answer.Count n) (Answer.Count m) e = cc
+answers-apart (Answer.Refused r) (Answer.Refused q) e = ap Answer.Refused (refused-apart r q e)
+answers-apart (Answer.Count n) (Answer.Refused q) e = cc
+answers-apart (Answer.Refused r) (Answer.Count m) e = cc
+
+-- 8 is the refusal of a reading that is not finite, with the values that are stated
+pub eight-is-gap : (r : Refusal) → stated r .number ≡ 8 → r ≡ NonFinite (getD (stated r .values) 0 0) (getD (stated r .values) 1 0)
+unfolding read numbered cases
+eight-is-gap r e = sym (read-back r) ∙ ap (λ (n : ℕ). numbered (cases (stated r .values)) n) e

@@ -1,2 +1,4 @@
+pub mod Limits
 pub mod Stated
+pub mod Tried
 pub mod Said

@@ -1,8 +1,10 @@
 -- What each refusal says: document 01's number, and the values that go with it. Definitions only.
 use Prim.Native.Nat.{ℕ}
 use mathlib.Core.List.{List, [], _∷_}
+use lib.ListN.{length, getD}
 use Rattle.refusals.specs.declared.Refusal.{Refusal}
 use Rattle.refusals.specs.declared.Refusal.the-variants.{Penalty, MinLen, Channels, Shape, Unequal, TooLong, Room, NonFinite, Pool, Form, Chart, Piece}
+use Rattle.refusals.specs.declared.Values.{Values}
 
 -- a number, and the values that are given with it
 pub record Stated : Type 0 where
@@ -27,3 +29,7 @@ stated Pool = plain 9
 stated Form = plain 10
 stated Chart = plain 11
 stated Piece = plain 12
+
+-- the values that are stated: how many, the first and the second, 0 for one that is not there
+unfoldable pub valuesOf : Refusal → Values
+valuesOf r = let values = stated r .values in record { count = length values; first = getD values 0 0; second = getD values 1 0 }

@@ -1,16 +1,21 @@
-// Every refusal of the library, the number by which it is known outside, and the two limits that are
-// refused beyond.
+// Every refusal of the library, the number and the values by which it is known outside, the answer of a
+// call that counts, and the two limits that are refused beyond.
 //
-// The numbers and their values are document 01's. They are written here and nowhere else: a caller
-// that prints or stores a refusal asks `number`, and code that keeps a limit names it.
+// The numbers and their values are document 01's. They are written here and nowhere else: a caller that
+// prints or stores a refusal asks `number` and `values`, and code that keeps a limit names it. So a new
+// refusal is a case here, a line of `specs/Stated` and of the laws, and the crate that gives it.
+//
+// `specs/Stated` has the numbers and values, `specs/Tried` how refusals are tried one after the other,
+// `specs/Said` what an answer says outside, `specs/Limits` the limits. No two refusals are stated alike
+// (`proofs/Apart`).
 ghost use mathlib.Core.Path.{_≡_};
-ghost use Rattle.refusals.specs.Stated.{stated};
+ghost use Rattle.refusals.specs.Stated.{stated, valuesOf};
 
 // The most channels that a run may have: more lengths are refusal 3.
 pub const MAX_CHANNELS: usize = 8;
 
 // The most readings that a channel or a series may have: more are refusal 6. A run length is looked
-// for among so many.
+// for among as many.
 pub const MAX_READINGS: usize = 4096;
 
 pub enum Refusal {
@@ -24,7 +29,7 @@ pub enum Refusal {
     Shape,
     // Two lengths differ.
     Unequal,
-    // A channel has more than 4,096 readings.
+    // A channel or a series has more than 4,096 readings.
     TooLong,
     // A lent area is shorter than the call needs.
     Room,
@@ -38,6 +43,20 @@ pub enum Refusal {
     Chart,
     // A piece's start is not below its end, or its end is past the channel.
     Piece,
+}
+
+// How many records, indices or cuts a call wrote, or the refusal for which it wrote none.
+pub enum Answer {
+    Count(usize),
+    Refused(Refusal),
+}
+
+// The values that a refusal carries: `count` of them, the `first` and the `second`, which are 0 where
+// it carries none.
+pub struct Values {
+    pub count: usize,
+    pub first: usize,
+    pub second: usize,
 }
 
 impl Refusal {
@@ -61,6 +80,24 @@ impl Refusal {
             Refusal::Form => 10,
             Refusal::Chart => 11,
             Refusal::Piece => 12,
+        }
+    }
+
+    // The values that go with the number. Every other crate asks here, and matches on no refusal.
+    pub fn values(self) -> Values
+        ensures { λ r. ⌜ r ≡ valuesOf self ⌝ }
+    {
+        match self {
+            Refusal::NonFinite { channel, index } => Values {
+                count: 2,
+                first: channel,
+                second: index,
+            },
+            _ => Values {
+                count: 0,
+                first: 0,
+                second: 0,
+            },
         }
     }
 }

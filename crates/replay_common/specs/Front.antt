@@ -5,6 +5,6 @@ use mathlib.Core.List.{List}
 use lib.ListN.{length, take}
 use lib.Ieee.{Float}
 
--- so many readings stand at the front of xs. The second part follows from the first. Both are stated so that the proof that Rattle makes of `&xs[..n]` finds them.
+-- `xs` has at least `n` readings, of which the first `n` were read. The second half follows from the first; both are stated so that the proof that Rattle makes of `&xs[..n]` finds them.
 abbrev pub Front : ℕ → List Float → Type 0
 Front n xs = (n ≤ length xs) × (n ≡ length (take n xs))

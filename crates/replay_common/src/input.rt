@@ -1,23 +1,24 @@
-// Reading a case from standard input. Numbers have their highest byte first.
+// Reading a case from standard input. Numbers are written with their highest byte first.
 ghost use Prim.Native.Nat.{_+_, _≤_};
 ghost use Rattle.replay_common.specs.Front.{Front};
 use libc::STDIN_FILENO;
 
-// So many bytes of the input as were asked for, at the front, if the input had them all.
+// Bytes of the input, at the front of `bytes`.
 pub struct Block {
     pub bytes: [u8; 33],
-    // Whether the input had them all, and whether it had any.
+    // Whether the input had all the bytes that were wanted, and whether it had any.
     pub whole: bool,
     pub begun: bool,
 }
 
-// A number of the input, if the input had all of its bytes.
+// A number of the input, `value`, and whether the input had all of its bytes.
 pub struct Stored {
     pub value: u64,
     pub whole: bool,
 }
 
-// A series, at the front of the readings, and the number of its refusal, or 0.
+// A series of `count` readings, at the front of `readings`, the number of its refusal, or 0, and whether
+// the input had all of it.
 pub struct Series {
     pub readings: [f64; 4096],
     pub count: usize,
@@ -25,11 +26,12 @@ pub struct Series {
     pub whole: bool,
 }
 
+// `byte` as a number of 64 bits.
 fn wide(byte: u8) -> u64 {
     byte as u64
 }
 
-// The number of so many bytes from `start` on.
+// The number that `bytes[start..start + width]` writes. Cost: one turn for each byte.
 pub fn number(bytes: &[u8; 33], start: usize, width: usize) -> u64
     requires { ⌜ start + width ≤ 33 ⌝ }
 {
@@ -42,14 +44,14 @@ pub fn number(bytes: &[u8; 33], start: usize, width: usize) -> u64
     value
 }
 
-// The float whose bit pattern stands from `start` on.
+// The float whose bit pattern `bytes[start..start + 8]` writes.
 pub fn float(bytes: &[u8; 33], start: usize) -> f64
     requires { ⌜ start ≤ 25 ⌝ }
 {
     floats::from_bits(number(bytes, start, 8))
 }
 
-// The next bytes of the input.
+// The next `width` bytes of the input.
 pub fn next_block(width: usize) -> Block
     requires { ⌜ width ≤ 33 ⌝ }
 {
@@ -62,7 +64,7 @@ pub fn next_block(width: usize) -> Block
     }
 }
 
-// The next number of the input, of so many bytes.
+// The next number of the input, of `width` bytes.
 pub fn next_number(width: usize) -> Stored
     requires { ⌜ width ≤ 33 ⌝ }
 {
@@ -74,7 +76,7 @@ pub fn next_number(width: usize) -> Stored
     }
 }
 
-// The next readings, so many of them.
+// The next `count` readings of the input, as a series without a refusal. Cost: one turn for each.
 pub fn next_readings(count: usize) -> Series
     requires { ⌜ count ≤ 4096 ⌝ }
     ensures { λ r. ⌜ Front (r .count) (r .readings) ⌝ }

@@ -1,5 +1,5 @@
-// What the programs share that replay stored answers: reading a stored case, comparing an answer with it,
-// counting, and saying what was found.
+// What the programs that replay stored answers share: reading a stored case, comparing an answer with
+// it, counting, and saying what was found.
 //
 // The cases are those that the programs of `tests/vectors` write; their first lines say what they are
 // made of. Nothing here trusts them: a case that ends too early, or has a number that is out of range,
@@ -11,7 +11,6 @@ mod progress;
 
 pub use answers::KEPT;
 pub use answers::LIMIT;
-pub use answers::POINT;
 pub use answers::RECORD;
 pub use answers::SERIES;
 pub use answers::UNUSED;

@@ -5,8 +5,8 @@ use libc::STDOUT_FILENO;
 use std::num::wrapping_add_u64;
 
 pub struct Progress {
-    // How many were compared of each kind, and how many of them differ. What a kind is, the program says
-    // that counts it.
+    // How many things were compared of each kind, and how many of them differ. Each program says in its
+    // first lines what its kinds are.
     pub cases: [u64; Progress::KINDS],
     pub differ: [u64; Progress::KINDS],
     // How many cases were begun.
@@ -19,16 +19,20 @@ pub struct Progress {
     pub more: bool,
 }
 
+// Prints `label` and the number `count`.
 fn print_count(label: &[u8], count: u64) {
     io::write_all(STDOUT_FILENO, label);
     io::print_decimal(STDOUT_FILENO, count);
 }
 
+// Prints `label` and the bit pattern `pattern` in hexadecimal digits.
 fn print_pattern(label: &[u8], pattern: u64) {
     io::write_all(STDOUT_FILENO, label);
     io::print_hex(STDOUT_FILENO, pattern, 16);
 }
 
+// Prints a line for a difference in the case `begun`: the value with the number `value`, at the index
+// `place`, is `got` and not `expected`.
 fn show(begun: u64, value: u64, place: usize, expected: u64, got: u64) {
     print_count(b"case ", begun);
     print_count(b" value ", value);
@@ -38,6 +42,8 @@ fn show(begun: u64, value: u64, place: usize, expected: u64, got: u64) {
     io::write_all(STDOUT_FILENO, b"\n");
 }
 
+// Prints a line for the kind `kind`, of which there are `cases` and `differ` of those differ; none where
+// there are no cases.
 fn report_kind(kind: usize, cases: u64, differ: u64) {
     if cases == 0 {
         return;
@@ -50,8 +56,9 @@ fn report_kind(kind: usize, cases: u64, differ: u64) {
 
 impl Progress {
     // How many kinds there may be.
-    pub const KINDS: usize = 24;
+    const KINDS: usize = 24;
 
+    // No case so far, and 20 lines for differences.
     pub fn new() -> Progress {
         Progress {
             cases: [0; Progress::KINDS],
@@ -63,27 +70,27 @@ impl Progress {
         }
     }
 
-    // One case more is begun.
+    // The progress with one case more begun.
     pub fn begun(mut self) -> Progress {
         self.begun = wrapping_add_u64(self.begun, 1);
         self
     }
 
-    // There is no case more.
+    // The progress at the end: there is no case more.
     pub fn ended(mut self) -> Progress {
         self.more = false;
         self
     }
 
-    // The case is not whole, and the replay ends.
+    // The progress at the end, where the case is not whole or of no known form, which is printed.
     pub fn stopped(self) -> Progress {
         print_count(b"too short, or of no known form: case ", self.begun);
         io::write_all(STDOUT_FILENO, b"\n");
         self.ended()
     }
 
-    // Compares what a call gave at a place with what is stored, and shows a difference while lines are
-    // left. The value's number says what it is.
+    // Compares `got`, which a call gave, with `expected`, which is stored, and shows a difference while
+    // lines are left. `value` is the number of what was compared, and `place` its index.
     pub fn matched(mut self, value: u64, place: usize, expected: u64, got: u64) -> Progress {
         if expected == got {
             return self;
@@ -97,7 +104,8 @@ impl Progress {
         self
     }
 
-    // The same of a float, whose bit pattern is stored from `start` on.
+    // The same of the float `got`, the value `value` at the index `place`, whose bit pattern is stored
+    // in `bytes[start..start + 8]`.
     pub fn matched_float(
         self,
         value: u64,
@@ -111,7 +119,7 @@ impl Progress {
         self.matched(value, place, number(bytes, start, 8), floats::to_bits(got))
     }
 
-    // One more of a kind, which differs if `unlike` is 1.
+    // The progress with one more of the kind `kind`, which differs if `unlike` is 1.
     pub fn tallied(mut self, kind: usize, unlike: u64) -> Progress {
         let place = kind % Progress::KINDS;
         self.cases[place] = wrapping_add_u64(self.cases[place], 1);
@@ -119,7 +127,8 @@ impl Progress {
         self
     }
 
-    // Counts what was compared since the last count as one of a kind.
+    // Counts what was compared since the last count as one of the kind `kind`, which differs if any of
+    // that does.
     pub fn counted(mut self, kind: usize) -> Progress {
         let unlike = self.unlike;
         self.unlike = 0;

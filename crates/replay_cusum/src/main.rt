@@ -3,8 +3,8 @@
 // of each differ. Lent records and indices that a call has no result for have to be as they were. Values
 // come and go as bit patterns, by `floats::from_bits` and `floats::to_bits`.
 //
-// The kinds are 0 for series, 1 for records, 2 for indices, 3 for places that are to be as they were, 4
-// for calls at a limit, and 5 for run lengths. The values are shown by these numbers:
+// The kinds are 0 for series, 1 for records, 2 for indices, 3 for lent records and indices that are to
+// be as they were, 4 for calls at a limit, and 5 for run lengths. The values are shown by these numbers:
 //
 //     0 to 2    of a record the upper sum, the lower sum, and its index with the signal 32 bits higher
 //     5, 6      the answers of signal_points and analyze: how many results, or a refusal 32 bits higher
@@ -32,7 +32,7 @@ use replay_common::SERIES;
 use replay_common::float;
 use run_length::replay_run_length;
 
-// The series that the input has next, by this chart.
+// Replays the series that the input has next, by `chart`.
 fn replay_series(progress: Progress, chart: Cusum) -> Progress {
     let series = replay_common::next_series();
     if series.whole {
@@ -43,7 +43,7 @@ fn replay_series(progress: Progress, chart: Cusum) -> Progress {
     progress.stopped()
 }
 
-// The chart whose settings these are.
+// The chart whose settings `bytes` has.
 fn chart_of(bytes: &[u8; 33]) -> Cusum {
     let target = float(bytes, 1);
     let sigma = float(bytes, 9);
@@ -53,7 +53,7 @@ fn chart_of(bytes: &[u8; 33]) -> Cusum {
     Cusum::with_params(target, sigma, float(bytes, 17), float(bytes, 25))
 }
 
-// The case whose first 33 bytes these are.
+// Replays the case whose first 33 bytes are `block`.
 fn replay_case(progress: Progress, block: Block) -> Progress {
     if !block.begun {
         return progress.ended();

@@ -8,8 +8,8 @@ use replay_common::Progress;
 use replay_common::RECORD;
 use replay_common::number;
 
-// A record as numbers, values by their bit patterns. The mark is the index, and 32 bits higher a 1 for a
-// signal.
+// A record as numbers, its values by their bit patterns. The `mark` is the index, and 32 bits higher a 1
+// for a signal.
 struct Fields {
     s_upper: u64,
     s_lower: u64,
@@ -26,6 +26,7 @@ pub(crate) fn unused() -> CusumResult {
     }
 }
 
+// The mark of a record with `signal` and `index`.
 fn marked(signal: bool, index: usize) -> u64 {
     if signal {
         return 1 << 32 | index as u64;
@@ -33,6 +34,7 @@ fn marked(signal: bool, index: usize) -> u64 {
     index as u64
 }
 
+// The fields of `record`.
 fn fields_of(record: CusumResult) -> Fields {
     let index = record.index;
     Fields {
@@ -42,6 +44,7 @@ fn fields_of(record: CusumResult) -> Fields {
     }
 }
 
+// Compares the fields `got` of the record `i` with the `expected` ones.
 fn match_fields(progress: Progress, i: usize, expected: Fields, got: Fields) -> Progress {
     progress
         .matched(0, i, expected.s_upper, got.s_upper)
@@ -49,13 +52,13 @@ fn match_fields(progress: Progress, i: usize, expected: Fields, got: Fields) -> 
         .matched(2, i, expected.mark, got.mark)
 }
 
-// Compares a record that stands in the lent ones with what was there before.
+// Compares the record `got`, which the lent ones have at `place`, with what was there before the call.
 pub(crate) fn match_unused(progress: Progress, place: usize, got: CusumResult) -> Progress {
     match_fields(progress, place, fields_of(unused()), fields_of(got)).counted(KEPT)
 }
 
-// Compares a record that stands in the lent ones with the one that the input has next, or where none is
-// stored for its place with what was there before.
+// Compares the record `got`, which the lent ones have at `place`, with the one that the input has next
+// if it is `stored`, and otherwise with what was there before the call.
 fn compare_record(progress: Progress, place: usize, got: CusumResult, stored: bool) -> Progress {
     if stored {
         let block = replay_common::next_block(19);
@@ -73,7 +76,8 @@ fn compare_record(progress: Progress, place: usize, got: CusumResult, stored: bo
     match_unused(progress, place, got)
 }
 
-// Compares the lent records, of which so many are stored.
+// Compares the lent `records`, of which the first `stored` are stored in the input. Cost: one turn for
+// each lent record.
 fn compare_records(
     mut progress: Progress,
     records: [CusumResult; 4097],
@@ -87,8 +91,8 @@ fn compare_records(
     progress
 }
 
-// Compares what the chart makes of the readings with the refusal of this number, or where that is 0 with
-// what the input has next, and counts the answers as one of a kind.
+// Compares what `chart` makes of `data` with the refusal of the number `refusal`, or where that is 0
+// with what the input has next, and counts the answers as one of the kind `kind`.
 pub(crate) fn replay_answers(
     progress: Progress,
     chart: Cusum,

@@ -10,7 +10,8 @@ use replay_common::number;
 // The kind of a run length.
 const RUN_LENGTH: usize = 5;
 
-// A refusal's number, 32 bits higher, and its place below, which for a level is 0 and 0.
+// The number of `refusal`, 32 bits higher, and its channel and index below, which for a level are 0 and
+// 0.
 fn refused(refusal: Refusal) -> u64 {
     let number = refusal.number() << 32;
     match refusal {
@@ -19,7 +20,7 @@ fn refused(refusal: Refusal) -> u64 {
     }
 }
 
-// An answer as one number: the reading at which the level is heard, or 0, or a refusal.
+// `answer` as one number: the reading at which the level is heard, or 0, or a refusal.
 fn heard(answer: Heard) -> u64 {
     match answer {
         Heard::At(n) => n as u64,
@@ -28,7 +29,7 @@ fn heard(answer: Heard) -> u64 {
     }
 }
 
-// The run length that the input has next, by this chart.
+// Replays the run length that the input has next, by `chart` on the side `side`.
 pub(crate) fn replay_run_length(progress: Progress, chart: Cusum, side: Side) -> Progress {
     let block = replay_common::next_block(11);
     let bytes = block.bytes;

@@ -1,8 +1,9 @@
-// Replays stored inputs of the program `cuts` through `cuts_answer::answer`, of which the program is made,
-// and compares what it answers byte for byte: the length of the output, its bytes, and the zeros behind
-// them. It shows the first differences, and says how many there are of each kind of output: 1 to 10 are
-// the refusals, 11 answers without a cut, 12 answers with cuts. Value 0 is the first place at which the
-// outputs differ, or how many bytes an output may have, and value 1 the length of the output.
+// Replays stored inputs of the program `cuts` through `cuts_answer::answer`, of which the program is
+// made, and compares what it answers byte for byte: the length of the output, its bytes, and the zeros
+// behind them. It shows the first differences, and says how many there are of each kind of output: 1 to
+// 10 are the refusals, 11 answers without a cut, 12 answers with cuts. Value 0 is the first index at
+// which the outputs differ, or how many bytes an output may have where none does, and value 1 the length
+// of the output.
 //
 // Standard input was made by
 //
@@ -19,13 +20,13 @@ use stored::OUTPUT;
 use stored::kind_of;
 use stored::next_bytes;
 
-// The letters of the records: a case, and the end.
+// The letters of the records of standard input: a case, and the end.
 const CASE: u64 = b'c' as u64;
 
 const END: u64 = b'e' as u64;
 
-// The first place at which the bytes differ, or where there is none their length. Cost: one turn for each
-// byte.
+// The first index at which `expected` and `got` differ, or their length where none does. Cost: one turn
+// for each byte.
 fn first_unlike(expected: &[u8; OUTPUT], got: &[u8; OUTPUT]) -> usize {
     let mut i = 0;
     while i < OUTPUT {
@@ -37,7 +38,7 @@ fn first_unlike(expected: &[u8; OUTPUT], got: &[u8; OUTPUT]) -> usize {
     i
 }
 
-// Compares an output with the stored one.
+// Compares the output `printed` with the stored one, `expected`, which has `length` bytes.
 fn compare(
     progress: Progress,
     expected: &[u8; OUTPUT],
@@ -52,7 +53,7 @@ fn compare(
         .counted(kind_of(expected))
 }
 
-// The next case: an input and the output that is to come of it.
+// Replays the next case: an input, and the output that it is to have.
 fn replay_case(progress: Progress) -> Progress {
     let mut input = [0; OUTPUT];
     let mut expected = [0; OUTPUT];
@@ -66,7 +67,7 @@ fn replay_case(progress: Progress) -> Progress {
     compare(progress, &expected, stored.length, printed)
 }
 
-// What standard input has next: a case, or the end.
+// Replays what standard input has next: a case, or the end.
 fn replay_record(progress: Progress) -> Progress {
     let letter = next_number(1);
     if letter.value == CASE {
@@ -78,8 +79,8 @@ fn replay_record(progress: Progress) -> Progress {
     progress.begun().stopped()
 }
 
-// Replays the cases of standard input up to the end. The count ends the loop, since nothing says that the
-// input does.
+// Replays the cases of standard input up to the end. The count ends the loop, since nothing says that
+// the input does.
 fn replay_all() -> Progress {
     let mut progress = Progress::new();
     let mut turn = 0u64;

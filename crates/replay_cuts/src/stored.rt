@@ -1,20 +1,21 @@
-// Reading what a case is made of: so many bytes, with their number in front. And the kind of an output.
+// Reading what a case is made of, bytes with their number in front; and the kind of an output.
 ghost use Prim.Native.Nat.{_≤_};
 ghost use lib.ListN.{length};
 use libc::STDIN_FILENO;
 use replay_common::next_block;
 use replay_common::number;
 
-// As many bytes as an output may have. No stored input has more.
+// How many bytes an output may have. No stored input has more.
 pub(crate) const OUTPUT: usize = 10841;
 
-// So many bytes stand at the front of an area, if the input had them.
+// How many bytes were read to the front of an area, and whether the input had all of them.
 pub(crate) struct Stored {
     pub length: usize,
     pub whole: bool,
 }
 
-// The next bytes: their number in 2 bytes, and each of them, which go to the front of the area.
+// Reads the next bytes of the input, their number in 2 bytes and each of them, to the front of `area`,
+// and says how many they are; none where `area` is too short.
 pub(crate) fn next_bytes(area: &mut [u8]) -> Stored
     ensures { λ r. ⌜ r .length ≤ length (now (area .entry)) ⌝ }
 {
@@ -39,12 +40,12 @@ const NO_CUTS: usize = 11;
 
 const CUTS: usize = 12;
 
-// What a digit counts.
+// The number that the digit `byte` writes.
 fn digit(byte: u8) -> usize {
     byte as usize % 16
 }
 
-// The kind of an output: for a refusal the number after its word, which is one digit or 10.
+// The kind of `output`: for a refusal the number behind its word, which is one digit or 10.
 pub(crate) fn kind_of(output: &[u8; OUTPUT]) -> usize {
     if output[0] == b'r' {
         if output[9] == b'0' {

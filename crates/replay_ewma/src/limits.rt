@@ -1,6 +1,6 @@
-// Calls that the Rust can't show: more readings than a chart takes, or too little room, or both, and each
-// with settings that are out of range, which is refused first. A refusal changes nothing that is lent.
-// Their numbers go on from those of the stored cases.
+// Calls that the Rust can't show: more readings than a chart takes, or too little room, or both, and
+// each with settings that are out of range, which is refused first. A refusal changes nothing that is
+// lent. The cases' numbers go on from those of the stored ones.
 use crate::lend::lend_two;
 use crate::records::match_unused;
 use crate::records::replay_answers;
@@ -10,7 +10,8 @@ use replay_common::LIMIT;
 use replay_common::Progress;
 use replay_common::match_answers;
 
-// Compares a refusal of this number, with room for two results.
+// Compares what `chart` answers for `data`, with room for two results, with the refusal of the number
+// `refusal`, and the lent results with what was there before.
 fn refused_two(progress: Progress, chart: Ewma, data: &[f64], refusal: u64) -> Progress {
     let mut points = [replay_common::UNUSED; 2];
     let signalled = chart.signal_points(data, &mut points);
@@ -24,7 +25,8 @@ fn refused_two(progress: Progress, chart: Ewma, data: &[f64], refusal: u64) -> P
     replay_common::compare_point(third, 1, points[1], false)
 }
 
-// Compares an answer for as many readings as there is room for.
+// Compares what `chart` answers for `data`, which has two readings, as many as there is room for: two
+// records, and `signals` indices.
 fn answered_two(progress: Progress, chart: Ewma, data: &[f64], signals: usize) -> Progress {
     let mut points = [replay_common::UNUSED; 2];
     let signalled = chart.signal_points(data, &mut points);
@@ -33,6 +35,7 @@ fn answered_two(progress: Progress, chart: Ewma, data: &[f64], signals: usize) -
     match_answers(progress, LIMIT, 0, signals, signalled, 2, charted)
 }
 
+// Compares the answers of all calls at a limit.
 pub(crate) fn limits(mut progress: Progress) -> Progress {
     let chart = Ewma::new(0.0, 1.0);
     let refused = Ewma::new(0.0, -1.0);

@@ -8,8 +8,8 @@ use replay_common::Progress;
 use replay_common::RECORD;
 use replay_common::number;
 
-// A record as numbers, values by their bit patterns. The mark is the index, and 32 bits higher a 1 for a
-// signal.
+// A record as numbers, its values by their bit patterns. The `mark` is the index, and 32 bits higher a 1
+// for a signal.
 struct Fields {
     ewma: u64,
     ucl: u64,
@@ -28,6 +28,7 @@ pub(crate) fn unused() -> EwmaResult {
     }
 }
 
+// The mark of a record with `signal` and `index`.
 fn marked(signal: bool, index: usize) -> u64 {
     if signal {
         return 1 << 32 | index as u64;
@@ -35,6 +36,7 @@ fn marked(signal: bool, index: usize) -> u64 {
     index as u64
 }
 
+// The fields of `record`.
 fn fields_of(record: EwmaResult) -> Fields {
     let index = record.index;
     Fields {
@@ -45,6 +47,7 @@ fn fields_of(record: EwmaResult) -> Fields {
     }
 }
 
+// Compares the fields `got` of the record `i` with the `expected` ones.
 fn match_fields(progress: Progress, i: usize, expected: Fields, got: Fields) -> Progress {
     progress
         .matched(0, i, expected.ewma, got.ewma)
@@ -53,13 +56,13 @@ fn match_fields(progress: Progress, i: usize, expected: Fields, got: Fields) -> 
         .matched(3, i, expected.mark, got.mark)
 }
 
-// Compares a record that stands in the lent ones with what was there before.
+// Compares the record `got`, which the lent ones have at `place`, with what was there before the call.
 pub(crate) fn match_unused(progress: Progress, place: usize, got: EwmaResult) -> Progress {
     match_fields(progress, place, fields_of(unused()), fields_of(got)).counted(KEPT)
 }
 
-// Compares a record that stands in the lent ones with the one that the input has next, or where none is
-// stored for its place with what was there before.
+// Compares the record `got`, which the lent ones have at `place`, with the one that the input has next
+// if it is `stored`, and otherwise with what was there before the call.
 fn compare_record(progress: Progress, place: usize, got: EwmaResult, stored: bool) -> Progress {
     if stored {
         let block = replay_common::next_block(27);
@@ -78,7 +81,8 @@ fn compare_record(progress: Progress, place: usize, got: EwmaResult, stored: boo
     match_unused(progress, place, got)
 }
 
-// Compares the lent records, of which so many are stored.
+// Compares the lent `records`, of which the first `stored` are stored in the input. Cost: one turn for
+// each lent record.
 fn compare_records(mut progress: Progress, records: [EwmaResult; 4097], stored: usize) -> Progress {
     let mut i = 0;
     while i < 4097 {
@@ -88,8 +92,8 @@ fn compare_records(mut progress: Progress, records: [EwmaResult; 4097], stored: 
     progress
 }
 
-// Compares what the chart makes of the readings with the refusal of this number, or where that is 0 with
-// what the input has next, and counts the answers as one of a kind.
+// Compares what `chart` makes of `data` with the refusal of the number `refusal`, or where that is 0
+// with what the input has next, and counts the answers as one of the kind `kind`.
 pub(crate) fn replay_answers(
     progress: Progress,
     chart: Ewma,

@@ -1,1 +1,1 @@
-pub mod Room
+pub mod Inner

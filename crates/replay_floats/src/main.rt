@@ -1,17 +1,17 @@
-// Replays the stored cases of the functions of `elementary` and `floats`, those of the logarithm also
-// by `logarithms`: it shows the first cases whose result is not the stored one, to the bit, and says
-// for each function how many there are.
-// Values come and go as bit patterns, by `floats::from_bits` and `floats::to_bits`.
+// Replays the stored cases of the functions of `elementary` and `floats`, those of the logarithm also by
+// `logarithms`: it shows the first cases whose result is not the stored one, to the bit, and says for
+// each function how many there are. Values come and go as bit patterns, by `floats::from_bits` and
+// `floats::to_bits`.
 //
-// The cases come from a program that shares no code with the two. Standard input was made by
+// The cases come from a program that shares no code with the crates. Standard input was made by
 //
 //     rustc -O tests/vectors/floats.rs -o target/vectors_floats
 //     target/vectors_floats > crates/replay_floats/stdin
 //
-// A case is 25 bytes: a letter for the function, and then three numbers, the highest byte first: the
-// bit pattern of x; n, an exponent or the bit pattern of a second value or 0; the result's bit pattern.
+// A case is 25 bytes: a letter for the function, and then three numbers, the highest byte first: the bit
+// pattern of x; n, an exponent or the bit pattern of a second value or 0; the result's bit pattern.
 ghost use Prim.Native.Nat.{_+_, _≤_, _<_, _^_};
-ghost use Rattle.replay_floats.specs.Room.{Within, Room};
+ghost use Rattle.replay_floats.specs.Inner.Room.{Within, Room};
 use libc::STDIN_FILENO;
 use libc::STDOUT_FILENO;
 
@@ -25,6 +25,7 @@ enum Function {
     Finite,
 }
 
+// A stored case: the bit pattern `x`, the number `n`, and the result's bit pattern.
 struct Case {
     x: u64,
     n: u64,
@@ -53,11 +54,12 @@ struct Progress {
     lines: u64,
 }
 
+// `byte` as a number of 64 bits.
 fn wide(byte: u8) -> u64 {
     byte as u64
 }
 
-// The number at the index `start`.
+// The number that `bytes[start..start + 8]` writes.
 fn number(bytes: &[u8; 25], start: usize) -> u64
     requires { ⌜ start ≤ 17 ⌝ }
 {
@@ -70,10 +72,12 @@ fn number(bytes: &[u8; 25], start: usize) -> u64
     value
 }
 
+// Prints `text`.
 fn print(text: &[u8]) {
     io::write_all(STDOUT_FILENO, text);
 }
 
+// Prints the name of `function`.
 fn print_name(function: Function) {
     match function {
         Function::Sqrt => print(b"sqrt"),
@@ -86,12 +90,13 @@ fn print_name(function: Function) {
     }
 }
 
+// Prints `label` and the bit pattern `pattern` in hexadecimal digits.
 fn print_pattern(label: &[u8], pattern: u64) {
     print(label);
     io::print_hex(STDOUT_FILENO, pattern, 16);
 }
 
-// Says why the cases end before the input does.
+// Prints that the cases end after `read` of them, with the `reason`, and returns the end.
 fn stopped(read: u64, reason: &[u8]) -> Input {
     print(b"after ");
     io::print_decimal(STDOUT_FILENO, read);
@@ -100,6 +105,7 @@ fn stopped(read: u64, reason: &[u8]) -> Input {
     Input::End
 }
 
+// The case that `bytes` has, behind `read` others.
 fn parsed(bytes: &[u8; 25], read: u64) -> Input {
     let case = Case {
         x: number(bytes, 1),
@@ -119,7 +125,7 @@ fn parsed(bytes: &[u8; 25], read: u64) -> Input {
     }
 }
 
-// The next case, after `read` others.
+// The next case of standard input, behind `read` others.
 fn next_input(read: u64) -> Input {
     let mut bytes = [0u8; 25];
     let count = io::read_full(STDIN_FILENO, &mut bytes);
@@ -132,11 +138,13 @@ fn next_input(read: u64) -> Input {
     stopped(read, b"the input ends inside one\n")
 }
 
+// 1 if `holds`, and 0 otherwise.
 fn one_if(holds: bool) -> f64 {
     if holds { 1.0 } else { 0.0 }
 }
 
-// The logarithm of x from among 66 other values, which make two blocks with it.
+// The logarithm of `x` by `logarithms`, as the value with the index `place` of 67, which make three
+// blocks.
 fn ln_among_others(x: f64, place: usize) -> f64
     requires { ⌜ place < 67 ⌝ }
 {
@@ -146,7 +154,8 @@ fn ln_among_others(x: f64, place: usize) -> f64
     values[place]
 }
 
-// The logarithm's bit pattern in both ways: the first one that is not as expected.
+// The bit pattern of the logarithm of `x` in both ways: the first one that is not as `case` expects, if
+// one is not.
 fn ln_both_ways(x: f64, case: Case) -> u64 {
     let alone = floats::to_bits(elementary::ln(x));
     if alone != case.expected {
@@ -155,7 +164,7 @@ fn ln_both_ways(x: f64, case: Case) -> u64 {
     floats::to_bits(ln_among_others(x, (case.x % 67) as usize))
 }
 
-// What the function makes of the case.
+// The bit pattern of what `function` makes of `case`.
 fn result(function: Function, case: Case) -> u64 {
     let x = floats::from_bits(case.x);
     match function {
@@ -169,7 +178,8 @@ fn result(function: Function, case: Case) -> u64 {
     }
 }
 
-// Shows a case that differs while lines are left, and says how many are left then.
+// Shows `case`, for which `function` gave `got`, if there is one of the `lines` left, and returns how
+// many are left then.
 fn show(lines: u64, function: Function, case: Case, got: u64) -> u64 {
     if lines == 0 {
         return 0;
@@ -183,7 +193,7 @@ fn show(lines: u64, function: Function, case: Case, got: u64) -> u64 {
     lines - 1
 }
 
-// The tally with one case more.
+// `tally` with one case more, which `differs` or not, where `read` cases have come before.
 fn counted(tally: Tally, differs: bool, read: u64) -> Tally
     requires { ⌜ Within read tally × (read + 1 < 2 ^ 64) ⌝ }
     ensures { λ r. ⌜ Within (read + 1) r ⌝ }
@@ -201,7 +211,8 @@ fn counted(tally: Tally, differs: bool, read: u64) -> Tally
     }
 }
 
-// The progress with one case more of the function, where `read` have come before.
+// `progress` with one case more of `function`, which `differs` or not, where `read` cases have come
+// before.
 fn tallied(mut progress: Progress, function: Function, differs: bool, read: u64) -> Progress
     requires { ⌜ Room read progress × (read + 1 < 2 ^ 64) ⌝ }
     ensures { λ r. ⌜ Room (read + 1) r ⌝ }
@@ -215,7 +226,7 @@ fn tallied(mut progress: Progress, function: Function, differs: bool, read: u64)
     progress
 }
 
-// The progress after one case more, where `read` have come before.
+// `progress` after `case` of `function` was replayed, where `read` cases have come before.
 fn replayed(mut progress: Progress, function: Function, case: Case, read: u64) -> Progress
     requires { ⌜ Room read progress × (read + 1 < 2 ^ 64) ⌝ }
     ensures { λ r. ⌜ Room (read + 1) r ⌝ }
@@ -252,6 +263,7 @@ fn replay() -> Progress {
     progress
 }
 
+// Prints how many cases `tally` has for the functions named `name`, and how many differ.
 fn report(name: &[u8], tally: Tally) {
     print(name);
     print(b" ");

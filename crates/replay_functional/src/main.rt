@@ -4,7 +4,8 @@
 use functional::partition_functional;
 use std::num::nearest_u64_to_f64;
 
-// Place i of a run of channels with n readings each, of which channel c is a ramp with steps of 5c + 1.
+// The reading at `i` of a run of channels with `n` readings each, of which channel c is a ramp with
+// steps of 5c + 1.
 fn ramp_at(i: usize, n: usize) -> f64 {
     if n == 0 {
         return 0.0;
@@ -13,7 +14,7 @@ fn ramp_at(i: usize, n: usize) -> f64 {
     nearest_u64_to_f64((i % n) as u64) * step
 }
 
-// Cost: one turn for each reading.
+// Fills `run` with ramps of `n` readings each. Cost: one turn for each reading.
 fn ramps(run: &mut [f64], n: usize) {
     let mut i = 0;
     while i < run.len() {
@@ -22,7 +23,7 @@ fn ramps(run: &mut [f64], n: usize) {
     }
 }
 
-// Cost: one turn for each line.
+// Prints the first `count` of `indices`, one a line. Cost: one turn for each line.
 fn print_front(indices: &[usize], count: usize) {
     let mut i = 0;
     while i < indices.len() {

@@ -3,7 +3,7 @@ use crate::calls::Call;
 use crate::lent::Found;
 use crate::lent::first_float_unlike;
 use crate::lent::first_index_unlike;
-use pelt::Searched;
+use refusals::Answer;
 use refusals::Refusal;
 use replay_common::Progress;
 use replay_common::next_number;
@@ -17,7 +17,7 @@ const CLEARED: usize = 10;
 
 const LEFT: usize = 11;
 
-// Two bytes for a number. None that is stored is as large as the largest.
+// `n` in two bytes: 65,535, which no stored number is, for any number that is not below that.
 fn short(n: usize) -> u64 {
     if n < 65535 {
         return n as u64;
@@ -25,23 +25,22 @@ fn short(n: usize) -> u64 {
     65535
 }
 
+// `refusal` as it is stored, in one number.
 fn refused(refusal: Refusal) -> u64 {
-    let number = refusal.number() << 48;
-    match refusal {
-        Refusal::NonFinite { channel, index } => number | short(channel) << 32 | short(index) << 16,
-        _ => number,
+    let values = refusal.values();
+    refusal.number() << 48 | short(values.first) << 32 | short(values.second) << 16
+}
+
+// `answer` as it is stored, in one number.
+fn given(answer: Answer) -> u64 {
+    match answer {
+        Answer::Count(cuts) => short(cuts),
+        Answer::Refused(refusal) => refused(refusal),
     }
 }
 
-// An answer as it is stored, in one number.
-fn given(searched: Searched) -> u64 {
-    match searched {
-        Searched::Cuts(cuts) => short(cuts),
-        Searched::Refused(refusal) => refused(refusal),
-    }
-}
-
-// The kind of a stored outcome: an answer by cost and penalty, or a refusal by its number.
+// The kind of a stored outcome: an answer by the cost and the penalty of `settings`, or the refusal of
+// the number `refusal`.
 fn outcome(settings: u64, refusal: u64) -> usize {
     if refusal == 0 {
         return (4 + settings / 65536 % 2 * 2 + settings / 256 % 2) as usize;
@@ -49,7 +48,7 @@ fn outcome(settings: u64, refusal: u64) -> usize {
     (11 + refusal % 13) as usize
 }
 
-// Compares what was found, and counts it as one of a kind.
+// Compares what was `found` with what was to be found, and counts it as one of the kind `kind`.
 fn compared(progress: Progress, kind: usize, found: Found) -> Progress {
     if found.expected == found.got {
         return progress.tallied(kind, 0);
@@ -59,7 +58,7 @@ fn compared(progress: Progress, kind: usize, found: Found) -> Progress {
         .tallied(kind, 1)
 }
 
-// Compares a cut with the one that the input has next.
+// Compares the cut `got`, with the index `place` among the cuts, with the one that the input has next.
 fn match_cut(progress: Progress, place: usize, got: usize) -> Progress {
     let next = next_number(2);
     if next.whole {
@@ -73,7 +72,8 @@ fn match_cut(progress: Progress, place: usize, got: usize) -> Progress {
     progress.stopped()
 }
 
-// The cuts area: so many cuts are stored, and the rest is to be as it was. Cost: one turn for each cut.
+// Compares the cuts area: `cuts` has the `stored` cuts of the input at its front, and the rest is to be
+// as it was. Cost: one turn for each cut.
 fn match_cuts(mut progress: Progress, stored: usize, cuts: &[usize]) -> Progress {
     if cuts.len() < stored {
         return progress.stopped();
@@ -86,7 +86,8 @@ fn match_cuts(mut progress: Progress, stored: usize, cuts: &[usize]) -> Progress
     compared(progress, CUTS_AREA, first_index_unlike(cuts, stored, false))
 }
 
-// The work areas: all of each is to be zero, or as it was.
+// Compares the work areas `floats`, `indices` and `pool`: all of each is to be zero if `cleared`, and as
+// it was otherwise.
 fn match_areas(
     progress: Progress,
     cleared: bool,
@@ -100,11 +101,12 @@ fn match_areas(
     compared(second, kind, first_float_unlike(pool, cleared))
 }
 
-// All that is stored of a search. Refusals before 9 change no work area.
+// Compares all that is stored of `call` with the answer `searched`, and with `cuts`, `floats`, `indices`
+// and `pool` as the call left them. Refusals before 9 change no work area.
 pub(crate) fn match_all(
     progress: Progress,
     call: Call,
-    searched: Searched,
+    answer: Answer,
     cuts: &[usize],
     floats: &[f64],
     indices: &[usize],
@@ -113,7 +115,7 @@ pub(crate) fn match_all(
     let stored = call.stored;
     let refusal = stored >> 48;
     let cleared = (refusal == 0) | (refusal == 9);
-    let first = progress.begun().matched(12, 0, stored, given(searched));
+    let first = progress.begun().matched(12, 0, stored, given(answer));
     let second = match_cuts(first, (stored % 65536) as usize, cuts);
     let third = match_areas(second, cleared, floats, indices, pool);
     third

@@ -1,4 +1,4 @@
-// A call: its settings, the lent areas, and the search.
+// A call: its settings, the room in the lent areas, and the search.
 ghost use Prim.Native.Nat.{_≤_};
 use crate::answers::match_all;
 use crate::lent::spoil_floats;
@@ -6,7 +6,7 @@ use crate::lent::spoil_indices;
 use costs::CostFunction;
 use costs::Penalty;
 use pelt::Pelt;
-use pelt::Searched;
+use refusals::Answer;
 use replay_common::Progress;
 use replay_common::float;
 use replay_common::next_block;
@@ -35,12 +35,12 @@ pub(crate) struct Room {
     pub pool: usize,
     pub readings: usize,
     pub channels: usize,
-    // Whether these are the numbers that were asked for.
+    // Whether the call is whole, and none of its numbers was too large.
     pub fits: bool,
 }
 
-// The next record, but for what follows a letter that is no call's. There are 4 functions, and 2 of the
-// other settings each.
+// The next record of standard input, but for what follows a letter that is no call's. There are 4
+// functions, and 2 of the other settings each.
 pub(crate) fn next_call() -> Call {
     let letter = next_number(1);
     if letter.value == CALL {
@@ -65,8 +65,8 @@ pub(crate) fn next_call() -> Call {
     }
 }
 
-// The room for a call. A number that is too large leaves its remainder; those of readings and channels
-// never are.
+// The room for `call`, with `readings` and `channels` in use of the run and the lengths. A number that
+// is too large leaves its remainder; those of readings and channels never are.
 pub(crate) fn room_of(call: Call, readings: u64, channels: u64) -> Room
     ensures { λ r. ⌜ (r .cuts ≤ 2064) × (r .floats ≤ 73776) × (r .indices ≤ 12312) × (r .pool ≤ 64000) × (r .readings ≤ 32776) × (r .channels ≤ 16) ⌝ }
 {
@@ -87,6 +87,7 @@ pub(crate) fn room_of(call: Call, readings: u64, channels: u64) -> Room
     }
 }
 
+// The cost function of `settings`.
 fn cost_of(settings: u64) -> CostFunction {
     if settings / 65536 % 2 == 0 {
         return CostFunction::L2;
@@ -94,6 +95,7 @@ fn cost_of(settings: u64) -> CostFunction {
     CostFunction::Normal
 }
 
+// The penalty of `settings`, where a custom one is `value`.
 fn penalty_of(settings: u64, value: f64) -> Penalty {
     if settings / 256 % 2 == 0 {
         return Penalty::Bic;
@@ -101,6 +103,7 @@ fn penalty_of(settings: u64, value: f64) -> Penalty {
     Penalty::Custom(value)
 }
 
+// The settings of `call` as a search takes them.
 fn pelt_of(call: Call) -> Pelt {
     let bytes = call.bytes;
     let cost = cost_of(call.settings);
@@ -111,6 +114,8 @@ fn pelt_of(call: Call) -> Pelt {
     Pelt::with_min_segment_len(cost, penalty, number(&bytes, 12, 8) as usize)
 }
 
+// The search of `run` and `lengths` by `pelt`, in the lent areas: `function` is the number of the public
+// function, as `main` has it.
 fn search(
     function: u64,
     pelt: Pelt,
@@ -120,7 +125,7 @@ fn search(
     floats: &mut [f64],
     indices: &mut [usize],
     pool: &mut [f64],
-) -> Searched {
+) -> Answer {
     if function == 0 {
         return pelt.detect(run, cuts, floats, indices, pool);
     }
@@ -133,7 +138,8 @@ fn search(
     pelt.detect_multi_strict(run, lengths, cuts, floats, indices, pool)
 }
 
-// The search in spoilt areas, and all that is stored of it.
+// Fills `cuts`, `floats`, `indices` and `pool` with junk, searches `run` with the `lengths` in them as
+// `call` says, and compares all that is stored of it.
 pub(crate) fn replay_search(
     progress: Progress,
     call: Call,
@@ -150,6 +156,6 @@ pub(crate) fn replay_search(
     spoil_floats(floats);
     spoil_indices(indices);
     spoil_floats(pool);
-    let searched = search(function, pelt, run, lengths, cuts, floats, indices, pool);
-    match_all(progress, call, searched, cuts, floats, indices, pool)
+    let answer = search(function, pelt, run, lengths, cuts, floats, indices, pool);
+    match_all(progress, call, answer, cuts, floats, indices, pool)
 }

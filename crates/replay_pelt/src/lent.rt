@@ -1,5 +1,5 @@
 // The areas: reading the run from standard input, what the lent ones hold before a call, and the first
-// place of one that a call left otherwise than it should.
+// index of one that a call left otherwise than it should.
 use floats::from_bits;
 use floats::to_bits;
 use replay_common::Stored;
@@ -19,7 +19,8 @@ pub(crate) const INDICES: usize = 12312;
 
 pub(crate) const POOL: usize = 64000;
 
-// The next readings: their number, which is the answer, and each of them. Cost: one turn for each.
+// Reads the next readings, their number and each of them, to the front of `run`, and returns their
+// number. Cost: one turn for each.
 pub(crate) fn next_run(run: &mut [f64]) -> Stored {
     let mut count = next_number(2);
     let readings = count.value as usize;
@@ -37,7 +38,8 @@ pub(crate) fn next_run(run: &mut [f64]) -> Stored {
     count
 }
 
-// The next lengths likewise.
+// Reads the next lengths, their number and each of them, to the front of `lengths`, and returns their
+// number. Cost: one turn for each.
 pub(crate) fn next_lengths(lengths: &mut [usize]) -> Stored {
     let mut count = next_number(1);
     let channels = count.value as usize;
@@ -55,8 +57,9 @@ pub(crate) fn next_lengths(lengths: &mut [usize]) -> Stored {
     count
 }
 
-// What a float is to be after a call, and with `cleared` false before one: below 0, so that a search that
-// reads it takes it for a low cost.
+// What the float with the index `place` is to be after a call that has `cleared` its area, +0; and with
+// `cleared` false before a call and after one that leaves the area: below 0, so that a search that reads
+// it takes it for a low cost.
 fn float_left(cleared: bool, place: usize) -> f64 {
     if cleared {
         return 0.0;
@@ -64,7 +67,8 @@ fn float_left(cleared: bool, place: usize) -> f64 {
     -0.5 - nearest_u64_to_f64(place as u64)
 }
 
-// The same of an index or a cut: before a call no index of a reading.
+// What the index or the cut with the index `place` is to be, likewise: 0 if `cleared`, and otherwise no
+// index of a reading.
 fn index_left(cleared: bool, place: usize) -> usize {
     if cleared {
         return 0;
@@ -72,7 +76,7 @@ fn index_left(cleared: bool, place: usize) -> usize {
     place % 1000 + 9000
 }
 
-// Cost: one turn for each place.
+// Fills `area` with what floats are before a call. Cost: one turn for each float.
 pub(crate) fn spoil_floats(area: &mut [f64]) {
     let mut i = 0;
     while i < area.len() {
@@ -81,7 +85,7 @@ pub(crate) fn spoil_floats(area: &mut [f64]) {
     }
 }
 
-// Cost: one turn for each place.
+// Fills `area` with what indices are before a call. Cost: one turn for each index.
 pub(crate) fn spoil_indices(area: &mut [usize]) {
     let mut i = 0;
     while i < area.len() {
@@ -90,15 +94,15 @@ pub(crate) fn spoil_indices(area: &mut [usize]) {
     }
 }
 
-// What was found at a place, and what was to be found there.
+// What was found at the index `place` of an area, and what was to be found there.
 pub(crate) struct Found {
     pub place: usize,
     pub expected: u64,
     pub got: u64,
 }
 
-// The first place whose float is not as it is to be, or where there is none the area's length. Cost: one
-// turn for each place.
+// The first index of `area` whose float is not as it is to be after a call, `cleared` or not; where
+// there is none, the area's length. Cost: one turn for each float.
 pub(crate) fn first_float_unlike(area: &[f64], cleared: bool) -> Found {
     let mut place = 0;
     while place < area.len() {
@@ -120,7 +124,8 @@ pub(crate) fn first_float_unlike(area: &[f64], cleared: bool) -> Found {
     }
 }
 
-// The same of indices, from a place on.
+// The first index of `area`, not below `from`, whose index is not as it is to be after a call, `cleared`
+// or not; where there is none, the area's length. Cost: one turn for each index.
 pub(crate) fn first_index_unlike(area: &[usize], from: usize, cleared: bool) -> Found {
     let mut place = from;
     while place < area.len() {

@@ -1,9 +1,9 @@
 // Replays stored searches through the four public searches of `pelt`: the answers are the Rust's, or by
-// document 01's rules where the Rust has none. Compared are the answer, a refusal's number and place
-// among it, the cuts at the front of the cuts area, that the rest of it is as it was, and every lent work
-// float, index and pool float: zero after an answer and after refusal 9, and as it was after any other
-// refusal. The areas hold junk before each call. It shows the first differences, and says how many there
-// are of each kind:
+// document 01's rules where the Rust has none. Compared are the answer, a refusal's number with its
+// channel and index among it, the cuts at the front of the cuts area, that the rest of it is as it was,
+// and every lent work float, index and pool float: zero after an answer and after refusal 9, and as it
+// was after any other refusal. The areas hold junk before each call. It shows the first differences, and
+// says how many there are of each kind:
 //
 //     0 to 3    searches by detect, detect_multi, detect_strict, detect_multi_strict
 //     4 to 7    answers for L2 by BIC, L2 with a custom penalty, Normal by BIC, Normal with a custom one
@@ -12,8 +12,8 @@
 //     12 to 20  refusals 1 to 9
 //
 // A search differs if anything in it does. A difference is shown with the kind of what differs as its
-// value, and 12 for an answer: the refusal's number in a byte, the channel and the index of refusal 8 and
-// the number of cuts in two each.
+// value, and 12 for an answer: the refusal's number in a byte, the channel and the index of refusal 8
+// and the number of cuts in two each.
 //
 // Standard input was made by
 //

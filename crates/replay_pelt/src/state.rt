@@ -12,12 +12,13 @@ const END: u64 = b'e' as u64;
 
 pub(crate) struct State {
     pub progress: Progress,
-    // So many readings stand at the front of the run, and so many lengths at the front of those.
+    // How many readings stand at the front of the run, and how many lengths at the front of the lengths.
     pub readings: u64,
     pub channels: u64,
 }
 
 impl State {
+    // Nothing was compared, and nothing is in use.
     pub(crate) fn new() -> State {
         State {
             progress: Progress::new(),
@@ -26,14 +27,15 @@ impl State {
         }
     }
 
-    // The record is not whole, or of no known form.
+    // The state at the end, where a record is not whole or of no known form.
     fn stopped(mut self) -> State {
         let progress = self.progress;
         self.progress = progress.stopped();
         self
     }
 
-    // With so many readings and lengths in use, if all of them were read.
+    // The state with `readings` readings and `channels` lengths in use; at the end unless the input had
+    // them all, which `whole` says.
     fn with(mut self, readings: u64, channels: u64, whole: bool) -> State {
         self.readings = readings;
         self.channels = channels;
@@ -44,7 +46,8 @@ impl State {
     }
 }
 
-// What standard input has next, after a letter that is no call's: readings, lengths, or the end.
+// Reads what standard input has next, behind a `letter` that is no call's: readings to `run`, lengths to
+// `lengths`, or the end; returns `state` after that.
 pub(crate) fn next_other(
     mut state: State,
     letter: u64,

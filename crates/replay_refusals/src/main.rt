@@ -2,6 +2,7 @@
 // with that table in `stdout`.
 use refusals::Refusal;
 
+// Prints the number of `refusal` in a line.
 fn print(refusal: Refusal) {
     io::print_decimal(1, refusal.number());
     io::write_all(1, b"\n");

@@ -4,14 +4,14 @@
 // differ. Values come and go as bit patterns, by `floats::from_bits` and `floats::to_bits`.
 //
 // The kinds are 0 for pieces, 1 for penalties, 2 for noise variances, 3 for sums of them, 4 for lent
-// places, and 5 for segments of channels. The values of each are shown by these numbers:
+// floats, and 5 for segments of channels. The values of each are shown by these numbers:
 //
 //     0 to 2    of a piece its refusal and length, its mean and its spread
 //     3 to 5    of its channel the mean, the lowest and the highest value
 //     6 to 9    the running sums at start and end, and those of the squares
 //     10, 11    the L2 cost and the Normal cost of a piece, or of a segment over the channels
 //     12 to 14  the penalty by BIC for L2 and for Normal, and a custom one
-//     15 to 18  a noise variance, a sum of them, how many lent places are cleared, and a lent place
+//     15 to 18  a noise variance, a sum of them, how many lent floats are cleared, and a lent float
 //
 // Standard input was made by
 //
@@ -31,7 +31,7 @@ use replay_common::Block;
 use replay_common::Progress;
 use runs::replay_run;
 
-// The case whose first 33 bytes these are.
+// Replays the case whose first 33 bytes are `block`.
 fn replay_case(progress: Progress, block: Block) -> Progress {
     let bytes = block.bytes;
     let begun = progress.begun();

@@ -10,8 +10,8 @@ use replay_common::number;
 // The kind of a penalty.
 const PENALTY: usize = 1;
 
-// The three penalties of a case, where the noise variances add up to `noise`. `rest` is what follows
-// its first 33 bytes.
+// Compares the three penalties of the case with the first 33 bytes `bytes` and those that follow,
+// `rest`, where the noise variances add up to `noise`.
 pub(crate) fn match_penalties(
     progress: Progress,
     bytes: &[u8; 33],
@@ -31,7 +31,7 @@ pub(crate) fn match_penalties(
         .counted(PENALTY)
 }
 
-// The penalty whose first 33 bytes are these.
+// Replays the penalty whose first 33 bytes are `bytes`.
 pub(crate) fn replay_penalty(progress: Progress, bytes: &[u8; 33]) -> Progress {
     let block = next_block(12);
     let rest = block.bytes;

@@ -14,8 +14,8 @@ use std::num::wrapping_sub_u64;
 // The kind of a piece.
 const PIECE: usize = 0;
 
-// The channel's mean and range; what is stored of them begins at the fifth byte. Nothing is added to
-// each, so that a zero has no sign: the Rust leaves that sign open.
+// Compares the mean and the range of `channel` with what `place` has of them from its fifth byte on. +0
+// is added to each, so that a zero has no sign: the Rust leaves that sign open.
 fn match_range(progress: Progress, channel: &[f64], place: &[u8; 33]) -> Progress {
     let mean = sums::mean(channel);
     let range = ranges::range_about(ranges::range_of(channel), mean);
@@ -33,6 +33,7 @@ struct Ends {
     squares_after: f64,
 }
 
+// The running sums of `channel` at `start` and at `end`.
 fn ends_of(channel: &[f64], start: usize, end: usize) -> Ends
     requires { ⌜ (start < end) × (end ≤ length (now channel)) × (length (now channel) ≤ 4096) ⌝ }
 {
@@ -47,7 +48,7 @@ fn ends_of(channel: &[f64], start: usize, end: usize) -> Ends
     }
 }
 
-// The running sums at both ends, against four stored values.
+// Compares the running sums `ends` with the four stored ones of `running`.
 fn match_ends(progress: Progress, ends: Ends, running: &[u8; 33]) -> Progress {
     progress
         .matched_float(6, 0, running, 0, ends.sum_before)
@@ -56,7 +57,7 @@ fn match_ends(progress: Progress, ends: Ends, running: &[u8; 33]) -> Progress {
         .matched_float(9, 0, running, 24, ends.squares_after)
 }
 
-// The costs of a piece of so many readings.
+// Compares the costs of the piece of `count` readings between `ends` with the stored ones of `answers`.
 fn match_costs(progress: Progress, ends: Ends, count: u64, answers: &[u8; 33]) -> Progress {
     let segment = Segment {
         length: nearest_u64_to_f64(count),
@@ -74,7 +75,8 @@ fn match_costs(progress: Progress, ends: Ends, count: u64, answers: &[u8; 33]) -
         )
 }
 
-// The sums and the costs, if the channel has such a piece.
+// Compares the running sums and the costs of the piece from `start` up to `end`, if `channel` has it,
+// with the stored ones of `running` and `answers`.
 fn match_sums(
     progress: Progress,
     channel: &[f64],
@@ -97,7 +99,8 @@ fn match_sums(
     match_costs(matched, ends, (end - start) as u64, answers)
 }
 
-// The answer of `summary`: the length, or the refusal's number 32 bits higher, then mean and spread.
+// Compares the answer of `summary` for the piece of `channel` from `start` up to `end` with the stored
+// one: the length, or the number `refusal` 32 bits higher, then mean and spread from `answers`.
 fn match_summary(
     progress: Progress,
     channel: &[f64],
@@ -116,7 +119,7 @@ fn match_summary(
     }
 }
 
-// The piece whose first 33 bytes are these.
+// Replays the piece whose first 33 bytes are `answers`.
 pub(crate) fn replay_piece(progress: Progress, answers: &[u8; 33]) -> Progress {
     let series = replay_common::next_series();
     let place = next_block(28);

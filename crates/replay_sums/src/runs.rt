@@ -9,8 +9,9 @@ use replay_common::next_block;
 use replay_common::next_readings;
 use replay_common::number;
 
-// The sum of the noise variances, the penalties that it gives, then what the input has next: the noise
-// variances and the segments.
+// Compares the sum of the noise variances of `run`, worked out in the area that `room` says, and the
+// penalties that it gives with the stored ones of `bytes` and `rest`; then what the input has next, the
+// noise variances and the segments.
 fn match_run(
     progress: Progress,
     bytes: &[u8; 33],
@@ -28,7 +29,7 @@ fn match_run(
     match_segments(second, run, n, channels, segments)
 }
 
-// The room whose bytes these are. A size that is too large leaves its remainder.
+// The room that `rest` says. A size that is too large leaves its remainder.
 fn room_of(rest: &[u8; 33]) -> Room
     ensures { λ r. ⌜ r .size ≤ 4104 ⌝ }
 {
@@ -39,7 +40,7 @@ fn room_of(rest: &[u8; 33]) -> Room
     }
 }
 
-// The run whose first 33 bytes are these.
+// Replays the run whose first 33 bytes are `bytes`.
 pub(crate) fn replay_run(progress: Progress, bytes: &[u8; 33]) -> Progress {
     let block = next_block(22);
     let rest = block.bytes;

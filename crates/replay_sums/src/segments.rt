@@ -8,7 +8,8 @@ use replay_common::number;
 // The kind of a segment.
 const SEGMENT: usize = 5;
 
-// Compares the costs of the segment that the input has next.
+// Compares the costs of the segment that the input has next, the one with the number `index`: `sums` has
+// the running sums of `channels` channels of `n` readings.
 fn match_segment(
     progress: Progress,
     sums: &[f64],
@@ -31,7 +32,8 @@ fn match_segment(
         .counted(SEGMENT)
 }
 
-// Cost: one turn for each segment.
+// Compares the costs of the `segments` segments that the input has next: `sums` has the running sums of
+// `channels` channels of `n` readings. Cost: one turn for each segment.
 fn match_each(
     mut progress: Progress,
     sums: &[f64],
@@ -47,8 +49,8 @@ fn match_each(
     progress
 }
 
-// The segments of a run, so many of them. The area has room for the sums of any 8 channels with 4,096
-// readings in all.
+// Compares the costs of the `segments` segments of `run` that the input has next, over its `channels`
+// channels of `n` readings. The area has room for the sums of any 8 channels with 4,096 readings in all.
 pub(crate) fn match_segments(
     progress: Progress,
     run: &[f64],

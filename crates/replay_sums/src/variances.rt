@@ -5,10 +5,10 @@ use crate::penalties::match_penalties;
 use floats::to_bits;
 use noise::noise_sum;
 use noise::noise_variance;
+use readings::channel_of;
 use replay_common::Progress;
 use replay_common::next_number;
 use replay_common::number;
-use readings::channel_of;
 
 // The kinds of what is compared here.
 const VARIANCE: usize = 2;
@@ -17,19 +17,20 @@ const SUM: usize = 3;
 
 const PLACE: usize = 4;
 
-// So many places are lent, and the differences stand from `place` on; so many of those are cleared.
+// An area of `size` floats is lent, the differences stand in it at `place`, and `cleared` of them are +0
+// after the call.
 pub(crate) struct Room {
     pub place: usize,
     pub size: usize,
     pub cleared: usize,
 }
 
-// What each place is before a call.
+// What each lent float is before a call.
 fn unused() -> f64 {
     9999.0
 }
 
-// The bits of what a place is to be after a call.
+// The bit pattern of what the float with the index `place` is to be after a call, as `room` says.
 fn left_at(room: Room, place: usize) -> u64 {
     if room.place <= place {
         if place - room.place < room.cleared {
@@ -39,7 +40,7 @@ fn left_at(room: Room, place: usize) -> u64 {
     to_bits(unused())
 }
 
-// Cost: one turn for each place.
+// How many floats of `area` are +0. Cost: one turn for each float.
 fn zeros_of(area: &[f64]) -> usize {
     let mut zeros = 0;
     let mut i = 0;
@@ -53,7 +54,7 @@ fn zeros_of(area: &[f64]) -> usize {
     zeros
 }
 
-// Cost: one turn for each place.
+// Compares each float of `area` after a call with what `room` says. Cost: one turn for each float.
 fn match_places(mut progress: Progress, room: Room, area: &[f64]) -> Progress {
     let mut i = 0;
     while i < area.len() {
@@ -65,15 +66,17 @@ fn match_places(mut progress: Progress, room: Room, area: &[f64]) -> Progress {
     progress
 }
 
-// Compares the area after a call with the room, and counts the call's answer as one of a kind. The
-// cleared places are counted too, for the room may say that there are some behind the last.
+// Compares `area` after a call with what `room` says, and counts the call's answer, number `index`, as
+// one of the kind `kind`. The cleared floats are counted too, for the room may say that there are some
+// behind the last.
 fn match_area(progress: Progress, kind: usize, index: usize, room: Room, area: &[f64]) -> Progress {
     let zeros = zeros_of(area) as u64;
     let matched = progress.matched(17, index, room.cleared as u64, zeros);
     match_places(matched.counted(kind), room, area)
 }
 
-// The noise variance of channel k, worked out in an unused area.
+// Compares the noise variance of `channel`, the channel `k`, worked out in the unused `area` where
+// `room` says, with `expected`.
 fn match_variance(
     progress: Progress,
     channel: &[f64],
@@ -87,7 +90,8 @@ fn match_variance(
     match_area(matched, VARIANCE, k, room, area)
 }
 
-// The sum of the noise variances of a run, worked out in an unused area, and the penalties that it gives.
+// Compares the sum of the noise variances of `run`, worked out in the unused `area` where `room` says,
+// and the penalties that it gives with the stored ones of `bytes` and `rest`.
 fn match_sum(
     progress: Progress,
     bytes: &[u8; 33],
@@ -103,7 +107,8 @@ fn match_sum(
     match_penalties(match_area(matched, SUM, n, room, area), bytes, rest, sum)
 }
 
-// The area has room for the differences of 4,096 readings, and some to spare.
+// The same of `bytes`, `rest`, `run` and `room` with an area of its own, which has room for the
+// differences of 4,096 readings, and some to spare.
 pub(crate) fn lend_for_sum(
     progress: Progress,
     bytes: &[u8; 33],
@@ -117,8 +122,8 @@ pub(crate) fn lend_for_sum(
     match_sum(progress, bytes, rest, run, room, &mut area[..room.size])
 }
 
-// Compares the noise variance of channel k with the one that the input has next. The area is the same,
-// unused again.
+// Compares the noise variance of `channel`, the channel `k`, with the one that the input has next. The
+// area, which `room` describes, is unused again.
 fn next_variance(progress: Progress, channel: &[f64], k: usize, room: Room) -> Progress
     requires { ⌜ room .size ≤ 4104 ⌝ }
 {
@@ -137,7 +142,8 @@ fn next_variance(progress: Progress, channel: &[f64], k: usize, room: Room) -> P
     )
 }
 
-// Cost: one turn for each channel.
+// Compares the noise variances of the `channels` channels of `run`, of `n` readings each, with those
+// that the input has next, each in an unused area as `room` says. Cost: one turn for each channel.
 pub(crate) fn match_variances(
     mut progress: Progress,
     run: &[f64],

@@ -2,7 +2,7 @@
 use Prim.Native.Nat.{ℕ, _+_, _-_, _*_, _/_, _≤_, _<_}
 use mathlib.Core.Path.{_≡_, refl, sym, ap, ap₂, _∙_}
 use mathlib.Core.Bool.{Bool, true, false, false≢true}
-use mathlib.Core.List.{List, [], _∷_, _++_}
+use mathlib.Core.List.{List, [], _++_}
 use mathlib.Core.Option.{Option, none, some}
 use native.Mathlib.Omega.{arith}
 use native.Mathlib.Nat.{mul-le-mul}
@@ -10,8 +10,12 @@ use borrow.Author.Tests.{lt-ltb, le-ltb, le-leb, leb-true}
 use lib.ListN.{length, drop, replicate, take-append-drop, length-append, length-replicate, replicate-append-replicate}
 use lib.Seq.{drop-at}
 use lib.Ieee.{Float}
+use Rattle.logic.proofs.Laws.{clash}
 use Rattle.floats.specs.Numbers.{_≤ᶠ_, +0}
-use Rattle.refusals.specs.Said.{answered, tried}
+use Rattle.refusals.specs.Limits.{maxChannels, maxReadings}
+use Rattle.refusals.proofs.TriedLaws.{tried-passed}
+use Rattle.refusals.specs.declared.Answer.{Answer}
+use Rattle.refusals.specs.declared.Answer.the-variants as Answer
 use Rattle.refusals.specs.declared.Refusal.{Refusal}
 use Rattle.refusals.specs.declared.Refusal.the-variants as Refusal
 use Rattle.areas.specs.Parts.{part}
@@ -36,32 +40,32 @@ use Rattle.search_rules.specs.Partitioned.{fitsTask, slotsSuffice, indicesAfter
 use Rattle.search_rules.proofs.FunctionalLaws.{functional-sound, functional-long}
 use Rattle.backtrack.specs.Cuts.{cutsOf}
 use Rattle.backtrack.proofs.CutLaws.{front-count, room-front, room-rest}
-use Rattle.search_answer.specs.declared.Searched.{Searched}
-use Rattle.search_answer.specs.declared.Searched.the-variants as Searched
-use Rattle.search_answer.specs.Tests.{searchTests, passed, admittedAs, Admitted}
+use Rattle.search_rules.specs.Limits.{functionalChannels, slotFloats}
+use Rattle.search_answer.specs.Tests.{admittedAs}
+use Rattle.search_answer.specs.Inner.Admitted.{Admitted}
 use Rattle.search_answer.specs.Search.{penaltyValue, prunedCuts, functionalCuts, takesFunctional, cutsBy, cutsWith, cutsFound}
-use Rattle.search_answer.specs.Left.{searched, foundSaid, cutsLeft, areaLeft, Left, Detected}
-use Rattle.search.specs.Held.{asksNoise, CutBack}
-use Rattle.search_answer.proofs.AdmissionLaws.{channels-passed, passed-channels, passed-said, refused-not-passed, refused-said}
+use Rattle.search_answer.specs.Outcome.{Areas, areas, foundAnswer, cutsLeft, zeros, foundOutcome, unchanged, outcomeBy, testsOf, foundIn, detected}
+use Rattle.search.specs.Inner.Held.{asksNoise, CutBack}
+use Rattle.search_answer.proofs.AdmissionLaws.{channels-passed, passed-channels, refused-tried}
 
--- ---- an admitted search of m readings or more fits
+-- ---- an admitted search, of `m` readings or more, fits
 pub admitted-fits-search : {run n k m cuts floats indices : ℕ} → Admitted run n k m cuts floats indices → m ≤ n → searchFits run n k m floats indices ≡ true
 unfolding searchFits seriesFits roomFits
 admitted-fits-search {run} {n} {k} {m} {cuts} {floats} {indices} a h =
-    rw (le-leb k 8 (a .few), le-leb n 4096 (a .short), le-leb (k * n) run (a .readings), le-leb 1 m (omega (arith, a .least)), le-leb m n h, le-leb ((2 * k + 2) * (n + 1)) floats (a .floats-room), le-leb (3 * (n + 1)) indices (a .indices-room))
+    rw (le-leb k maxChannels (a .few), le-leb n maxReadings (a .short), le-leb (k * n) run (a .readings), le-leb 1 m (omega (arith, a .least)), le-leb m n h, le-leb ((2 * k + 2) * (n + 1)) floats (a .floats-room), le-leb (3 * (n + 1)) indices (a .indices-room))
 
-admitted-fits-task : {run n k m cuts floats indices : ℕ} → Admitted run n k m cuts floats indices → m ≤ n → 1 ≤ k → k ≤ 2 → fitsTask run n k m floats indices ≡ true
+admitted-fits-task : {run n k m cuts floats indices : ℕ} → Admitted run n k m cuts floats indices → m ≤ n → 1 ≤ k → k ≤ functionalChannels → fitsTask run n k m floats indices ≡ true
 unfolding fitsTask
-admitted-fits-task {run} {n} {k} {m} {cuts} {floats} {indices} a h l g = rw (le-leb 1 k l, le-leb k 2 g, admitted-fits-search a h)
+admitted-fits-task {run} {n} {k} {m} {cuts} {floats} {indices} a h l g = rw (le-leb 1 k l, le-leb k functionalChannels g, admitted-fits-search a h)
 
 -- ---- the penalty
 noise-unread : (penalty : Penalty) (cost : CostFunction) (n k : ℕ) (v w : Float) → asksNoise penalty cost ≡ false → penaltyOf penalty cost n k v ≡ penaltyOf penalty cost n k w
 unfolding penaltyOf bicPenalty asksNoise
 noise-unread (Penalty.Custom x) cost n k v w e = refl
-noise-unread Penalty.Bic L2 n k v w e = absurd (let z : _≡_ {A = ℕ} 0 1 = cc in omega arith)
+noise-unread Penalty.Bic L2 n k v w e = absurd (clash cc)
 noise-unread Penalty.Bic Normal n k v w e = refl
 
--- the noise has room in the last n + 1 work floats
+-- the noise has room in the last `n + 1` work floats
 noise-room : (n k floats : ℕ) → (2 * k + 2) * (n + 1) ≤ floats → hasRoom floats n ((2 * k + 1) * (n + 1)) ≡ true
 unfolding hasRoom
 noise-room n k floats h = le-leb _ floats (omega (arith, split))
@@ -110,33 +114,31 @@ module _ (cost : CostFunction) (penalty : Penalty) (m : ℕ) (run : List Float) 
   pruned-found value h e f g = long-found h ∙ ap (λ (v : Float). cutsWith cost run n k m v slots) (sym e) ∙ rw (cutsWith, f, cutsBy, g)
 
 -- the functional search takes one or two channels
-pub functional-few : (cost : CostFunction) (k : ℕ) → takesFunctional cost k ≡ true → k ≤ 2
+pub functional-few : (cost : CostFunction) (k : ℕ) → takesFunctional cost k ≡ true → k ≤ functionalChannels
 unfolding takesFunctional
-functional-few L2 k e = leb-true k 2 e
+functional-few L2 k e = leb-true k functionalChannels e
 functional-few Normal k e = absurd (false≢true e)
 
 -- ---- what is left
-module _ {cuts cuts′ : List ℕ} {floats floats′ : List Float} {indices indices′ : List ℕ} {pool pool′ : List Float} {r : Searched} where
-  pub left-none : r ≡ Searched.Cuts 0 → cuts′ ≡ cuts → floats′ ≡ replicate (length floats) +0 → indices′ ≡ replicate (length indices) 0 → pool′ ≡ replicate (length pool) +0
-      → Left [] (some []) cuts cuts′ floats floats′ indices indices′ pool pool′ r
-  unfolding tried foundSaid passed cutsLeft areaLeft
-  left-none e c f i q = record { answer = ap searched e; cuts-left = c; floats-left = f; indices-left = i; pool-left = q }
+-- the outcome by its parts
+outcome-is : (found : Option (List ℕ)) (before : Areas) {cuts′ : List ℕ} {floats′ : List Float} {indices′ : List ℕ} {pool′ : List Float} {r : Answer}
+    → r ≡ foundAnswer found → cuts′ ≡ cutsLeft found (before .cuts) → floats′ ≡ zeros +0 (before .floats) → indices′ ≡ zeros 0 (before .indices) → pool′ ≡ zeros +0 (before .pool)
+    → _≡_ {A = Answer × Areas} (r, areas cuts′ floats′ indices′ pool′) (foundOutcome found before)
+unfolding foundOutcome
+outcome-is found before e c f i q = rw (e, c, f, i, q) refl
 
-  left-nine : r ≡ Searched.Refused Refusal.Pool → cuts′ ≡ cuts → floats′ ≡ replicate (length floats) +0 → indices′ ≡ replicate (length indices) 0 → pool′ ≡ replicate (length pool) +0
-      → Left [] none cuts cuts′ floats floats′ indices indices′ pool pool′ r
-  unfolding tried foundSaid passed cutsLeft areaLeft
-  left-nine e c f i q = record { answer = ap searched e; cuts-left = c; floats-left = f; indices-left = i; pool-left = q }
+pub left-none : (before : Areas) {floats′ : List Float} {indices′ : List ℕ} {pool′ : List Float} {r : Answer} → r ≡ Answer.Count 0 → floats′ ≡ zeros +0 (before .floats) → indices′ ≡ zeros 0 (before .indices) → pool′ ≡ zeros +0 (before .pool)
+    → _≡_ {A = Answer × Areas} (r, areas (before .cuts) floats′ indices′ pool′) (foundOutcome (some []) before)
+left-none before e f i q = outcome-is (some []) before e refl f i q
 
-pub left-found : {found other : Option (List ℕ)} {cuts cuts′ : List ℕ} {floats floats′ : List Float} {indices indices′ : List ℕ} {pool pool′ : List Float} {r : Searched}
-    → other ≡ found → Left [] found cuts cuts′ floats floats′ indices indices′ pool pool′ r → Left [] other cuts cuts′ floats floats′ indices indices′ pool pool′ r
-left-found e f = rw e f
+pub left-found : {found other : Option (List ℕ)} (before : Areas) {o : Answer × Areas} → other ≡ found → o ≡ foundOutcome found before → o ≡ foundOutcome other before
+left-found before e f = f ∙ sym (ap (λ (x : Option (List ℕ)). foundOutcome x before) e)
 
 -- the work floats count by their number alone
-pub left-again : {found : Option (List ℕ)} {cuts cuts′ : List ℕ} {before floats floats′ : List Float} {indices indices′ : List ℕ} {pool pool′ : List Float} {r : Searched}
-    → length before ≡ length floats → Left [] found cuts cuts′ before floats′ indices indices′ pool pool′ r → Left [] found cuts cuts′ floats floats′ indices indices′ pool pool′ r
-unfolding passed areaLeft
-left-again e f =
-    record { answer = f .answer; cuts-left = f .cuts-left; floats-left = f .floats-left ∙ ap (λ (k : ℕ). replicate k +0) e; indices-left = f .indices-left; pool-left = f .pool-left }
+pub left-again : (found : Option (List ℕ)) (cuts : List ℕ) (between floats : List Float) (indices : List ℕ) (pool : List Float) {o : Answer × Areas}
+    → length between ≡ length floats → o ≡ foundOutcome found (areas cuts between indices pool) → o ≡ foundOutcome found (areas cuts floats indices pool)
+unfolding foundOutcome
+left-again found cuts between floats indices pool e f = f ∙ ap (λ (k : ℕ). (foundAnswer found, areas (cutsLeft found cuts) (replicate k +0) (zeros 0 indices) (zeros +0 pool))) e
 
 -- the predecessors are cleared, and what stands behind them is zero
 front-cleared : (last : List ℕ) (size n : ℕ) (ix ix′ : List ℕ) → ix ≡ last ++ replicate (size - (n + 1)) 0 → length last ≡ n + 1 → n + 1 ≤ size → Cleared 0 ix ix′ 0 (n + 1) → ix′ ≡ replicate size 0
@@ -151,86 +153,69 @@ front-cleared last size n ix ix′ e l h c =
     ∙ replicate-append-replicate (n + 1) (size - (n + 1)) 0
     ∙ ap (λ (k : ℕ). replicate k 0) whole
 
-module _ {n m k run : ℕ} {cuts cuts′ : List ℕ} {floats floats′ : List Float} {indices ix ix′ : List ℕ} {pool pool′ : List Float} {r : Searched} where
-  pub left-cuts : (last : List ℕ) → CutBack n cuts cuts′ ix ix′ r → Sound m last → length last ≡ n + 1 → ix ≡ last ++ replicate (length indices - (n + 1)) 0 → Admitted run n k m (length cuts) (length floats) (length indices)
-      → floats′ ≡ replicate (length floats) +0 → pool′ ≡ replicate (length pool) +0
-      → Left [] (some (cutsOf last n)) cuts cuts′ floats floats′ indices ix′ pool pool′ r
-  unfolding tried foundSaid passed cutsLeft areaLeft
+module _ {n m k run : ℕ} (before : Areas) {cuts′ : List ℕ} {floats′ : List Float} {ix ix′ : List ℕ} {pool′ : List Float} {r : Answer} where
+  left-cuts : (last : List ℕ) → CutBack n (before .cuts) cuts′ ix ix′ r → Sound m last → length last ≡ n + 1 → ix ≡ last ++ replicate (length (before .indices) - (n + 1)) 0
+      → Admitted run n k m (length (before .cuts)) (length (before .floats)) (length (before .indices)) → floats′ ≡ zeros +0 (before .floats) → pool′ ≡ zeros +0 (before .pool)
+      → _≡_ {A = Answer × Areas} (r, areas cuts′ floats′ ix′ pool′) (foundOutcome (some (cutsOf last n)) before)
   left-cuts last b s l e a f q =
-      let rest : List ℕ = replicate (length indices - (n + 1)) 0 in
+      let rest : List ℕ = replicate (length (before .indices) - (n + 1)) 0 in
       let back = rw e at b .back in
       let few : n < length last = omega arith in
       let count = front-count last rest back few in
-      record {
-        answer = ap searched (b .answer) ∙ ap (λ (c : ℕ). answered (c ∷ [])) count;
-        cuts-left =
-            sym (take-append-drop (b .count) cuts′)
-            ∙ ap₂ _++_ (room-front last rest back s (a .least) few (a .cuts-room)) (room-rest last rest back s (a .least) few (a .cuts-room))
-            ∙ ap (λ (c : ℕ). cutsOf last n ++ drop c cuts) count;
-        floats-left = f;
-        indices-left = front-cleared last (length indices) n ix ix′ e l (omega (arith, a .indices-room)) (b .cleared);
-        pool-left = q;
-      }
+      outcome-is (some (cutsOf last n)) before
+      (b .answer ∙ ap Answer.Count count)
+      (sym (take-append-drop (b .count) cuts′)
+      ∙ ap₂ _++_ (room-front last rest back s (a .least) few (a .cuts-room)) (room-rest last rest back s (a .least) few (a .cuts-room))
+      ∙ ap (λ (c : ℕ). cutsOf last n ++ drop c (before .cuts)) count)
+      f
+      (front-cleared last (length (before .indices)) n ix ix′ e l (omega (arith, a .indices-room)) (b .cleared))
+      q
 
 -- ---- by the two searches
-module _ (task : Task) {cuts cuts′ : List ℕ} {floats floats′ : List Float} {indices ix : List ℕ} {pool pool′ : List Float} {b : Bool}
-    (a : Admitted (length (task .run)) (task .n) (task .channels) (task .m) (length cuts) (length floats) (length indices)) (h : task .m ≤ task .n) (l : 1 ≤ task .channels) (g : task .channels ≤ 2)
-    (q : Partitioned task floats floats′ indices ix pool pool′ b) where
-  pub functional-left : {ix′ : List ℕ} {r : Searched} → b ≡ true → CutBack (task .n) cuts cuts′ ix ix′ r
-      → Left [] (functionalCuts task (length pool / 200)) cuts cuts′ floats floats′ indices ix′ pool pool′ r
+module _ (task : Task) (before : Areas) {floats′ : List Float} {ix : List ℕ} {pool′ : List Float} {b : Bool}
+    (a : Admitted (length (task .run)) (task .n) (task .channels) (task .m) (length (before .cuts)) (length (before .floats)) (length (before .indices))) (h : task .m ≤ task .n) (l : 1 ≤ task .channels) (g : task .channels ≤ functionalChannels)
+    (q : Partitioned task (before .floats) floats′ (before .indices) ix (before .pool) pool′ b) where
+  pub functional-left : {cuts′ ix′ : List ℕ} {r : Answer} → b ≡ true → CutBack (task .n) (before .cuts) cuts′ ix ix′ r
+      → _≡_ {A = Answer × Areas} (r, areas cuts′ floats′ ix′ pool′) (foundOutcome (functionalCuts task (length (before .pool) / slotFloats)) before)
   unfolding functionalCuts slotsSuffice indicesAfter
   functional-left e c =
       let fit = admitted-fits-task a h l g in
       let enough = sym (q .answer fit) ∙ e in
-      let found : ix ≡ functional task .last ++ replicate (length indices - (task .n + 1)) 0 = q .found fit ∙ rw enough in
-      rw (functionalCuts, enough) (left-cuts (functional task .last) c (functional-sound task h) (functional-long task h) found a (q .floats-cleared fit) (q .pool-cleared fit))
+      let found : ix ≡ functional task .last ++ replicate (length (before .indices) - (task .n + 1)) 0 = q .found fit ∙ rw enough in
+      rw (functionalCuts, enough) (left-cuts before (functional task .last) c (functional-sound task h) (functional-long task h) found a (q .floats-cleared fit) (q .pool-cleared fit))
 
-  pub functional-nine : {r : Searched} → b ≡ false → cuts′ ≡ cuts → r ≡ Searched.Refused Refusal.Pool
-      → Left [] (functionalCuts task (length pool / 200)) cuts cuts′ floats floats′ indices ix pool pool′ r
+  pub functional-nine : b ≡ false → _≡_ {A = Answer × Areas} (Answer.Refused Refusal.Pool, areas (before .cuts) floats′ ix pool′) (foundOutcome (functionalCuts task (length (before .pool) / slotFloats)) before)
   unfolding functionalCuts slotsSuffice indicesAfter
-  functional-nine e c f =
+  functional-nine e =
       let fit = admitted-fits-task a h l g in
       let few = sym (q .answer fit) ∙ e in
-      let zeros : ix ≡ replicate (length indices) 0 = q .found fit ∙ rw few in
-      rw (functionalCuts, few) (left-nine f c (q .floats-cleared fit) zeros (q .pool-cleared fit))
+      let empty : ix ≡ zeros 0 (before .indices) = q .found fit ∙ rw few in
+      rw (functionalCuts, few) (outcome-is none before refl refl (q .floats-cleared fit) empty (q .pool-cleared fit))
 
-pub pruned-left : {cost : CostFunction} {penalty : Float} {run : List Float} {n k m : ℕ} {cuts cuts′ : List ℕ} {floats floats′ : List Float} {indices ix ix′ : List ℕ} {pool pool′ : List Float} {r : Searched}
-    → Admitted (length run) n k m (length cuts) (length floats) (length indices) → m ≤ n → Pruned cost penalty run n k m floats floats′ indices ix → Cleared +0 pool pool′ 0 (length pool) → CutBack n cuts cuts′ ix ix′ r
-    → Left [] (some (prunedCuts cost run n k m penalty)) cuts cuts′ floats floats′ indices ix′ pool pool′ r
+pub pruned-left : {cost : CostFunction} {penalty : Float} {run : List Float} {n k m : ℕ} (before : Areas) {cuts′ : List ℕ} {floats′ : List Float} {ix ix′ : List ℕ} {pool′ : List Float} {r : Answer}
+    → Admitted (length run) n k m (length (before .cuts)) (length (before .floats)) (length (before .indices)) → m ≤ n → Pruned cost penalty run n k m (before .floats) floats′ (before .indices) ix
+    → Cleared +0 (before .pool) pool′ 0 (length (before .pool)) → CutBack n (before .cuts) cuts′ ix ix′ r
+    → _≡_ {A = Answer × Areas} (r, areas cuts′ floats′ ix′ pool′) (foundOutcome (some (prunedCuts cost run n k m penalty)) before)
 unfolding prunedCuts
-pruned-left {cost} {penalty} {run} {n} {k} {m} a h q z c =
+pruned-left {cost} {penalty} {run} {n} {k} {m} before a h q z c =
     let fit = admitted-fits-search a h in
     let some : 0 < m = omega (arith, a .least) in
-    left-cuts (predecessors (price cost run n k) penalty m n) c (predecessors-sound _ penalty m n some h) (predecessors-long _ penalty m n some h) (q .found fit) a (q .cleared fit) (cleared-whole z)
+    left-cuts before (predecessors (price cost run n k) penalty m n) c (predecessors-sound _ penalty m n some h) (predecessors-long _ penalty m n some h) (q .found fit) a (q .cleared fit) (cleared-whole z)
 
 -- ---- with the tests before 9
-tests-added : {ts : List (Bool × Refusal)} {found : Option (List ℕ)} {cuts cuts′ : List ℕ} {floats floats′ : List Float} {indices indices′ : List ℕ} {pool pool′ : List Float} {r : Searched}
-    → Left [] found cuts cuts′ floats floats′ indices indices′ pool pool′ r → passed ts ≡ true → Left ts found cuts cuts′ floats floats′ indices indices′ pool pool′ r
-unfolding tried passed
-tests-added {ts} f e =
-    record {
-      answer = f .answer ∙ sym (passed-said ts _ e);
-      cuts-left = rw e (f .cuts-left);
-      floats-left = rw e (f .floats-left);
-      indices-left = rw e (f .indices-left);
-      pool-left = rw e (f .pool-left);
-    }
+module _ (strict : Bool) (cost : CostFunction) (penalty : Penalty) (m : ℕ) (run : List Float) (lengths : List ℕ) (before : Areas) where
+  pub detected-refused : {r : Refusal} → admittedAs strict penalty m run lengths (length (before .cuts)) (length (before .floats)) (length (before .indices)) ≡ Shaped.Refused r
+      → _≡_ {A = Answer × Areas} (Answer.Refused r, before) (detected strict cost penalty m run lengths before)
+  unfolding admittedAs outcomeBy
+  detected-refused e = refused-tried (unchanged before) (testsOf strict penalty m run lengths before) (foundOutcome (foundIn cost penalty m run lengths before) before) _ _ e
 
-module _ (strict : Bool) (cost : CostFunction) (penalty : Penalty) (m : ℕ) (run : List Float) (lengths : List ℕ) {cuts : List ℕ} {floats : List Float} {indices : List ℕ} {pool : List Float} where
-  pub detected-refused : {r : Refusal} → admittedAs strict penalty m run lengths (length cuts) (length floats) (length indices) ≡ Shaped.Refused r → Detected strict cost penalty m run lengths cuts cuts floats floats indices indices pool pool (Searched.Refused r)
-  unfolding admittedAs cutsLeft areaLeft
-  detected-refused e =
-      let tests = searchTests strict penalty m run lengths (length cuts) (length floats) (length indices) in
-      let no = refused-not-passed tests _ _ e in
-      record { answer = refused-said tests _ _ _ e; cuts-left = rw no; floats-left = rw no; indices-left = rw no; pool-left = rw no }
-
-  pub detected-found : {k n : ℕ} {cuts′ : List ℕ} {floats′ : List Float} {indices′ : List ℕ} {pool′ : List Float} {r : Searched} → admittedAs strict penalty m run lengths (length cuts) (length floats) (length indices) ≡ Shaped.Channels k n
-      → Left [] (cutsFound cost penalty m run n k (length pool / 200)) cuts cuts′ floats floats′ indices indices′ pool pool′ r → Detected strict cost penalty m run lengths cuts cuts′ floats floats′ indices indices′ pool pool′ r
-  unfolding admittedAs
+  pub detected-found : {k n : ℕ} {o : Answer × Areas} → admittedAs strict penalty m run lengths (length (before .cuts)) (length (before .floats)) (length (before .indices)) ≡ Shaped.Channels k n
+      → o ≡ foundOutcome (cutsFound cost penalty m run n k (length (before .pool) / slotFloats)) before → o ≡ detected strict cost penalty m run lengths before
+  unfolding admittedAs outcomeBy
   detected-found {k} {n} e f =
-      let tests = searchTests strict penalty m run lengths (length cuts) (length floats) (length indices) in
+      let tests = testsOf strict penalty m run lengths before in
       let yes = channels-passed tests _ e in
       let same : Shaped.Channels (length lengths) (firstLength lengths) ≡ Shaped.Channels k n = sym (passed-channels tests _ yes) ∙ e in
       let counted : k ≡ length lengths = cc in
       let first : n ≡ firstLength lengths = cc in
-      tests-added (rw (counted, first) at f) yes
+      (rw (counted, first) at f) ∙ sym (tried-passed (unchanged before) tests (foundOutcome (foundIn cost penalty m run lengths before) before) yes)

@@ -1,25 +1,27 @@
 // The search from its settings to its cuts, once nothing refuses before 9.
 ghost use mathlib.Core.Path.{_≡_};
-ghost use mathlib.Core.List.{[]};
-ghost use Prim.Native.Nat.{_+_, _*_, _/_, _≤_};
+ghost use Prim.Native.Nat.{_/_, _≤_};
 ghost use lib.ListN.{length};
-ghost use Rattle.search_answer.specs.Tests.{Admitted};
+ghost use Rattle.search_answer.specs.Inner.Admitted.{Admitted};
 ghost use Rattle.search_answer.specs.Search.{penaltyValue, takesFunctional, cutsFound};
-ghost use Rattle.search_answer.specs.Left.{Left, Detected};
-ghost use Rattle.search.specs.Held.{asksNoise};
+ghost use Rattle.search_answer.specs.Outcome.{areas, foundOutcome, detected};
+ghost use Rattle.search_rules.specs.Limits.{slotFloats};
+ghost use Rattle.search_rules.specs.Room.{floatsFor};
+ghost use Rattle.refusals.specs.Limits.{maxChannels, maxReadings};
+ghost use Rattle.search.specs.Inner.Held.{asksNoise};
 use crate::cuts::by_functional;
 use crate::cuts::by_inequality;
 use crate::cuts::no_cuts;
-use search_answer::admitted;
 use costs::CostFunction;
 use costs::Penalty;
 use costs::resolve_penalty;
 use functional::FUNCTIONAL_MAX_CHANNELS;
 use noise::noise_sum;
 use readings::Shaped;
-use search_answer::Searched;
+use refusals::Answer;
+use search_answer::admitted;
 
-// Whether the penalty is worked out from the noise.
+// Whether `penalty` is worked out from the noise, for this `cost`.
 fn asks_noise(penalty: Penalty, cost: CostFunction) -> bool
     ensures { λ r. ⌜ r ≡ asksNoise penalty cost ⌝ }
 {
@@ -32,7 +34,8 @@ fn asks_noise(penalty: Penalty, cost: CostFunction) -> bool
     }
 }
 
-// The resolved penalty. The noise is worked out in the last n + 1 work floats that a search asks for.
+// The value of `penalty` for `channels` channels of `n` readings in `run`. The noise is worked out in
+// the last `n + 1` of the work floats that a search asks for.
 fn penalty_value(
     cost: CostFunction,
     penalty: Penalty,
@@ -41,7 +44,7 @@ fn penalty_value(
     channels: usize,
     floats: &mut [f64],
 ) -> f64
-    requires { ⌜ (n ≤ 4096) × (channels ≤ 8) × ((2 * channels + 2) * (n + 1) ≤ length (now floats)) ⌝ }
+    requires { ⌜ (n ≤ maxReadings) × (channels ≤ maxChannels) × (floatsFor n channels ≤ length (now floats)) ⌝ }
     ensures { λ r. ⌜ (r ≡ penaltyValue cost penalty (now (run .entry)) n channels) × (length (now (floats .exit)) ≡ length (now (floats .entry))) ⌝ }
 {
     if asks_noise(penalty, cost) {
@@ -51,7 +54,8 @@ fn penalty_value(
     resolve_penalty(penalty, cost, n, channels, 0.0)
 }
 
-// L2 on one or two channels takes the functional search, all else the inequality search.
+// Whether the functional search is taken: by L2 on one or two channels. All else takes the inequality
+// search.
 fn takes_functional(cost: CostFunction, channels: usize) -> bool
     ensures { λ r. ⌜ r ≡ takesFunctional cost channels ⌝ }
 {
@@ -61,7 +65,8 @@ fn takes_functional(cost: CostFunction, channels: usize) -> bool
     }
 }
 
-// The cuts, or 9, of an admitted search with so many channels of n readings.
+// The cuts, or 9, of a search of `channels` channels of `n` readings in `run`, in pieces of `m` or
+// more, once none of refusals 1 to 8 is given.
 fn find(
     cost: CostFunction,
     penalty: Penalty,
@@ -73,9 +78,9 @@ fn find(
     floats: &mut [f64],
     indices: &mut [usize],
     pool: &mut [f64],
-) -> Searched
+) -> Answer
     requires { ⌜ Admitted (length (now run)) n channels m (length (now cuts)) (length (now floats)) (length (now indices)) ⌝ }
-    ensures { λ r. ⌜ Left [] (cutsFound cost penalty m (now (run .entry)) n channels (length (now (pool .entry)) / 200)) (now (cuts .entry)) (now (cuts .exit)) (now (floats .entry)) (now (floats .exit)) (now (indices .entry)) (now (indices .exit)) (now (pool .entry)) (now (pool .exit)) r ⌝ }
+    ensures { λ r. ⌜ (r, areas (now (cuts .exit)) (now (floats .exit)) (now (indices .exit)) (now (pool .exit))) ≡ foundOutcome (cutsFound cost penalty m (now (run .entry)) n channels (length (now (pool .entry)) / slotFloats)) (areas (now (cuts .entry)) (now (floats .entry)) (now (indices .entry)) (now (pool .entry))) ⌝ }
 {
     if n / 2 < m {
         return no_cuts(floats, indices, pool);
@@ -101,10 +106,11 @@ fn find(
     )
 }
 
-// The cuts, in pieces of m readings or more, of the channels that stand one after the other in `run`
-// and have these lengths; lowest first, in the front of `cuts`. Afterwards the work areas are zero; a
-// refusal other than 9 changes nothing. Cost: that of the search which runs, and one turn for each lent
-// place.
+// The cuts, in pieces of `m` readings or more, of the channels that stand one after the other in `run`
+// and have the lengths `lengths`; lowest first, in the front of `cuts`. Where the search is `strict`, a
+// reading that is not finite is refused. Afterwards the work areas `floats`, `indices` and `pool` are
+// zero; a refusal other than 9 changes nothing. Cost: that of the search which runs, and one turn for
+// each lent entry.
 pub fn find_cuts(
     cost: CostFunction,
     penalty: Penalty,
@@ -116,8 +122,8 @@ pub fn find_cuts(
     floats: &mut [f64],
     indices: &mut [usize],
     pool: &mut [f64],
-) -> Searched
-    ensures { λ r. ⌜ Detected strict cost penalty m (now (run .entry)) (now (lengths .entry)) (now (cuts .entry)) (now (cuts .exit)) (now (floats .entry)) (now (floats .exit)) (now (indices .entry)) (now (indices .exit)) (now (pool .entry)) (now (pool .exit)) r ⌝ }
+) -> Answer
+    ensures { λ r. ⌜ (r, areas (now (cuts .exit)) (now (floats .exit)) (now (indices .exit)) (now (pool .exit))) ≡ detected strict cost penalty m (now (run .entry)) (now (lengths .entry)) (areas (now (cuts .entry)) (now (floats .entry)) (now (indices .entry)) (now (pool .entry))) ⌝ }
 {
     let answer = admitted(
         penalty,
@@ -130,7 +136,7 @@ pub fn find_cuts(
         indices.len(),
     );
     match answer {
-        Shaped::Refused(refusal) => Searched::Refused(refusal),
+        Shaped::Refused(refusal) => Answer::Refused(refusal),
         Shaped::Channels {
             count: k,
             length: n,

@@ -2,18 +2,18 @@
 use Prim.Native.Nat.{ℕ, _*_, _/_, _≤_}
 use mathlib.Core.Path.{_≡_, refl}
 use mathlib.Core.Bool.{Bool, true, false}
-use mathlib.Core.List.{List, [], _∷_}
+use mathlib.Core.List.{List, []}
 use mathlib.Core.Option.{Option, none, some}
 use native.Mathlib.Omega.{arith}
 use native.Mathlib.Nat.{not-suc-le-zero}
 use borrow.Author.Tests.{ltb-false}
 use lib.Dec.{ltb, leb}
-use lib.ListN.{length, take, drop}
-use lib.Seq.{take-at}
+use lib.ListN.{length, take}
 use lib.Ieee.{Float}
+use Rattle.logic.proofs.Laws.{clash}
 use Rattle.floats.specs.Numbers.{_≤ᶠ_, +0}
-use Rattle.refusals.specs.Said.{Said, answered, tried}
-use Rattle.refusals.specs.declared.Refusal.{Refusal}
+use Rattle.refusals.specs.declared.Answer.{Answer}
+use Rattle.refusals.specs.declared.Answer.the-variants as Answer
 use Rattle.costs.specs.declared.CostFunction.{CostFunction}
 use Rattle.costs.specs.declared.Penalty.{Penalty}
 use Rattle.readings.specs.Shape.{firstLength}
@@ -25,20 +25,20 @@ use Rattle.search_rules.specs.Functional.{Task, functional}
 use Rattle.search_rules.proofs.FunctionalLaws.{functional-sound}
 use Rattle.backtrack.specs.Cuts.{cutsOf}
 use Rattle.backtrack.proofs.CutLaws.{cuts-rise, cut-pieces, cuts-half}
-use Rattle.search_answer.specs.declared.Searched.{Searched}
-use Rattle.search_answer.specs.declared.Searched.the-variants as Searched
-use Rattle.search_answer.specs.Tests.{searchTests, passed, admittedAs}
+use Rattle.search_rules.specs.Limits.{slotFloats}
+use Rattle.search_answer.specs.Tests.{admittedAs}
 use Rattle.search_answer.specs.Search.{penaltyValue, prunedCuts, functionalCuts, takesFunctional, cutsBy, cutsWith, cutsFound}
-use Rattle.search_answer.specs.Left.{foundSaid, cutsLeft, Detected}
+use Rattle.search_answer.specs.Outcome.{Areas, testsOf, foundIn, detected}
 use Rattle.search_answer.specs.Demand.{Cut}
 use Rattle.search_answer.proofs.AdmissionLaws.{passed-channels, admitted-fits}
+use Rattle.search_answer.proofs.FrontLaws.{counted-found, front}
 
 -- ---- of the cuts that are found
 record Good (m n : ℕ) (found : Option (List ℕ)) : Type 0 where
   cut : (cuts : List ℕ) → found ≡ some cuts → Cut m n cuts
 
 good-none : (m n : ℕ) → Good m n none
-good-none m n = record { cut = λ cuts e. absurd (let z : _≡_ {A = ℕ} 0 1 = cc in omega arith) }
+good-none m n = record { cut = λ cuts e. absurd (clash cc) }
 
 good-some : {m n : ℕ} {cuts : List ℕ} → Cut m n cuts → Good m n (some cuts)
 good-some {cuts = cuts} g = record { cut = λ other e. let same : other ≡ cuts = cc in rw same g }
@@ -77,32 +77,15 @@ found-good cost penalty m run n k slots h =
     enough e = let l = ltb-false n (2 * m) e in omega arith
 
 -- ---- as the caller sees them
-tried-answered : (ts : List (Bool × Refusal)) (s : Said) (vs : List ℕ) → answered vs ≡ tried ts s → passed ts ≡ true
-unfolding tried passed
-tried-answered [] s vs e = refl
-tried-answered ((true, r) ∷ ts) s vs e = absurd (let z : _≡_ {A = ℕ} 0 1 = cc in omega arith)
-tried-answered ((false, r) ∷ ts) s vs e = tried-answered ts s vs e
-
-tried-result : (ts : List (Bool × Refusal)) (s : Said) (vs : List ℕ) → answered vs ≡ tried ts s → answered vs ≡ s
-unfolding tried
-tried-result [] s vs e = e
-tried-result ((true, r) ∷ ts) s vs e = absurd (let z : _≡_ {A = ℕ} 0 1 = cc in omega arith)
-tried-result ((false, r) ∷ ts) s vs e = tried-result ts s vs e
-
-front-cut : {m n count : ℕ} {cuts′ : List ℕ} (cuts : List ℕ) (found : Option (List ℕ)) → Good m n found → answered (count ∷ []) ≡ foundSaid found → cuts′ ≡ cutsLeft true found cuts → Cut m n (take count cuts′)
-unfolding foundSaid cutsLeft
-front-cut cuts none g e f = absurd (let z : _≡_ {A = ℕ} 0 1 = cc in omega arith)
-front-cut {count = count} cuts (some found) g e f =
-    let long : length found ≡ count = cc in
-    rw (f, take-at found (drop (length found) cuts) count long) (g .cut found refl)
-
 -- the cuts in the front of the area, however it was before and whatever the readings are
-pub detected-cuts : (strict : Bool) (cost : CostFunction) (penalty : Penalty) (m : ℕ) (run : List Float) (lengths : List ℕ) {cuts cuts′ : List ℕ} {floats floats′ : List Float} {indices indices′ : List ℕ} {pool pool′ : List Float} (count : ℕ)
-    → Detected strict cost penalty m run lengths cuts cuts′ floats floats′ indices indices′ pool pool′ (Searched.Cuts count) → Cut m (firstLength lengths) (take count cuts′)
+pub detected-cuts : (strict : Bool) (cost : CostFunction) (penalty : Penalty) (m : ℕ) (run : List Float) (lengths : List ℕ) (before after : Areas) (count : ℕ)
+    → _≡_ {A = Answer × Areas} (Answer.Count count, after) (detected strict cost penalty m run lengths before) → Cut m (firstLength lengths) (take count (after .cuts))
 unfolding admittedAs
-detected-cuts strict cost penalty m run lengths {cuts} {floats = floats} {indices = indices} {pool = pool} count d =
-    let tests = searchTests strict penalty m run lengths (length cuts) (length floats) (length indices) in
-    let found = cutsFound cost penalty m run (firstLength lengths) (length lengths) (length pool / 200) in
-    let yes = tried-answered tests (foundSaid found) (count ∷ []) (d .answer) in
-    let fits = admitted-fits strict penalty m run lengths (length cuts) (length floats) (length indices) (passed-channels tests (Shaped.Channels (length lengths) (firstLength lengths)) yes) in
-    front-cut cuts found (found-good cost penalty m run (firstLength lengths) (length lengths) (length pool / 200) (fits .least)) (tried-result tests (foundSaid found) (count ∷ []) (d .answer)) (rw yes at (d .cuts-left))
+detected-cuts strict cost penalty m run lengths before after count d =
+    let tests = testsOf strict penalty m run lengths before in
+    let found = foundIn cost penalty m run lengths before in
+    let c = counted-found tests found before after count d in
+    let f = front found before after count (c .1) in
+    let fits = admitted-fits strict penalty m run lengths (length (before .cuts)) (length (before .floats)) (length (before .indices)) (passed-channels tests (Shaped.Channels (length lengths) (firstLength lengths)) (c .0)) in
+    let good = found-good cost penalty m run (firstLength lengths) (length lengths) (length (before .pool) / slotFloats) (fits .least) in
+    rw (f .stand) (good .cut (f .cuts) (f .are))

@@ -1,15 +1,14 @@
 -- The edges of a search by computation: a short series before the slots, a double that does not wrap, and the rest of the cuts area. Assumes nothing.
-use Prim.Native.Nat.{ℕ, _^_}
+use Prim.Native.Nat.{_^_}
 use mathlib.Core.Path.{_≡_, refl}
-use mathlib.Core.Bool.{true}
 use mathlib.Core.List.{List, [], _∷_}
 use mathlib.Core.Option.{none, some}
 use lib.Ieee.{Float}
-use Rattle.floats.specs.Numbers.{+0, ofWhole}
+use Rattle.floats.specs.Numbers.{ofWhole}
 use Rattle.costs.specs.declared.CostFunction.the-variants.{L2}
 use Rattle.costs.specs.declared.Penalty.the-variants.{Bic, Custom}
 use Rattle.search_answer.specs.Search.{cutsFound}
-use Rattle.search_answer.specs.Left.{cutsLeft}
+use Rattle.search_answer.specs.Outcome.{cutsLeft}
 
 abbrev five : List Float
 five = ofWhole 0 ∷ ofWhole 0 ∷ ofWhole 4 ∷ ofWhole 4 ∷ ofWhole 4 ∷ []
@@ -25,11 +24,9 @@ unfolding cutsFound
 no-wrapped-double = refl
 
 -- one cut takes the first of three places
-rest-is-left : cutsLeft true (some (2 ∷ [])) (7 ∷ 8 ∷ 9 ∷ []) ≡ 2 ∷ 8 ∷ 9 ∷ []
-unfolding cutsLeft
+rest-is-left : cutsLeft (some (2 ∷ [])) (7 ∷ 8 ∷ 9 ∷ []) ≡ 2 ∷ 8 ∷ 9 ∷ []
 rest-is-left = refl
 
 -- 9 writes no cut
-none-found : cutsLeft true none (7 ∷ 8 ∷ []) ≡ 7 ∷ 8 ∷ []
-unfolding cutsLeft
+none-found : cutsLeft none (7 ∷ 8 ∷ []) ≡ 7 ∷ 8 ∷ []
 none-found = refl

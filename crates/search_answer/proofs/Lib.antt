@@ -2,5 +2,4 @@ pub mod AdmissionLaws
 pub mod RefusedGap
 pub mod Examples
 pub mod CutLaws
-pub mod Outcomes
 pub mod FrontLaws

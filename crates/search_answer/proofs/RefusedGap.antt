@@ -10,37 +10,42 @@ use lib.Ieee.{Float}
 use lib.Ieee.Fits.{and-l, and-r}
 use Rattle.costs.specs.declared.Penalty.{Penalty}
 use Rattle.refusals.specs.Stated.{stated}
-use Rattle.refusals.specs.Said.{Said, refused, tried}
+use Rattle.refusals.specs.Tried.{tried, passed}
+use Rattle.refusals.specs.declared.Answer.{Answer}
+use Rattle.refusals.specs.declared.Answer.the-variants as Answer
 use Rattle.refusals.specs.declared.Refusal.{Refusal}
 use Rattle.refusals.specs.declared.Refusal.the-variants as Refusal
-use Rattle.refusals.proofs.Apart.{refused-apart}
 use Rattle.readings.specs.Shape.{shapeTests, shapedAs, firstLength}
 use Rattle.readings.specs.Gaps.{gapTo, channelAt, indexAt}
 use Rattle.readings.specs.FirstGap.{FirstGap}
 use Rattle.readings.specs.declared.Shaped.the-variants as Shaped
 use Rattle.readings.proofs.FirstGapLaws.{first-gap}
-use Rattle.search_answer.specs.Tests.{badPenalty, shortRoom, roomTests, searchTests, passed}
+use Rattle.search_rules.specs.Limits.{leastMinimum}
+use Rattle.search_answer.specs.Tests.{badPenalty, shortRoom, roomTests, searchTests}
 use Rattle.search_answer.proofs.AdmissionLaws.{passed-channels, Shapely, shapely}
 
--- what 8 says
-abbrev eight : ℕ → ℕ → Said
-eight k i = refused (stated (Refusal.NonFinite k i))
+-- the answer 8
+abbrev eight : ℕ → ℕ → Answer
+eight k i = Answer.Refused (Refusal.NonFinite k i)
+
+refusal-is : (r q : Refusal) → Answer.Refused r ≡ Answer.Refused q → r ≡ q
+refusal-is r q e = cc
 
 -- none of these tests refuses with 8
 others : List (Bool × Refusal) → Bool
 others [] = true
 others (t ∷ ts) = not (eqb (stated (t .1) .number) 8) && others ts
 
--- so where 8 is said, none of them holds, and those after them say it
-after-others : (ts us : List (Bool × Refusal)) (s : Said) (k i : ℕ) → T (others ts) → eight k i ≡ tried (ts ++ us) s → (passed ts ≡ true) × (eight k i ≡ tried us s)
+-- so where 8 is answered, none of them holds, and those after them give it
+after-others : (ts us : List (Bool × Refusal)) (s : Answer) (k i : ℕ) → T (others ts) → eight k i ≡ tried Answer.Refused (ts ++ us) s → (passed ts ≡ true) × (eight k i ≡ tried Answer.Refused us s)
 unfolding others tried passed
 after-others [] us s k i o e = (refl, e)
-after-others ((true, r) ∷ ts) us s k i o e = absurd (rw (← refused-apart (Refusal.NonFinite k i) r e) at (and-l (not (eqb (stated r .number) 8)) (others ts) o))
+after-others ((true, r) ∷ ts) us s k i o e = absurd (rw (← refusal-is (Refusal.NonFinite k i) r e) at (and-l (not (eqb (stated r .number) 8)) (others ts) o))
 after-others ((false, r) ∷ ts) us s k i o e = after-others ts us s k i (and-r (not (eqb (stated r .number) 8)) (others ts) o) e
 
--- the place that is said, with two names for its parts
+-- the place that is answered, with two names for its parts
 same-place : (A : ℕ → ℕ → Type 0) (k i l j : ℕ) → eight k i ≡ eight l j → A l j → A k i
-same-place A k i l j e a = let r = refused-apart (Refusal.NonFinite k i) (Refusal.NonFinite l j) e in let p : k ≡ l = cc in let q : i ≡ j = cc in rw (p, q) a
+same-place A k i l j e a = let r = refusal-is (Refusal.NonFinite k i) (Refusal.NonFinite l j) e in let p : k ≡ l = cc in let q : i ≡ j = cc in rw (p, q) a
 
 -- the search is strict, its channels fill the run, and this is the first gap
 pub record Gap (strict : Bool) (run : List Float) (lengths : List ℕ) (k i : ℕ) : Type 0 where
@@ -48,14 +53,14 @@ pub record Gap (strict : Bool) (run : List Float) (lengths : List ℕ) (k i : �
   pub shape : Shapely run lengths (length lengths) (firstLength lengths)
   pub first : FirstGap run (length lengths) (firstLength lengths) k i
 
-module _ (strict : Bool) (penalty : Penalty) (m : ℕ) (run : List Float) (lengths : List ℕ) (cuts floats indices : ℕ) (s : Said) (k i : ℕ) where
-  pub refused-gap : eight k i ≡ tried (searchTests strict penalty m run lengths cuts floats indices) s → (eight k i ≡ s → ⊥) → Gap strict run lengths k i
+module _ (strict : Bool) (penalty : Penalty) (m : ℕ) (run : List Float) (lengths : List ℕ) (cuts floats indices : ℕ) (s : Answer) (k i : ℕ) where
+  pub refused-gap : eight k i ≡ tried Answer.Refused (searchTests strict penalty m run lengths cuts floats indices) s → (eight k i ≡ s → ⊥) → Gap strict run lengths k i
   unfolding searchTests roomTests shapeTests shapedAs others tried
   refused-gap e other =
       let n = firstLength lengths in
       let at = gapTo run (length run) in
       let room = roomTests strict run n (length lengths) cuts floats indices in
-      let a = after-others ((badPenalty penalty, Refusal.Penalty) ∷ (ltb m 2, Refusal.MinLen) ∷ []) (shapeTests lengths (length run) ++ room) s k i tt e in
+      let a = after-others ((badPenalty penalty, Refusal.Penalty) ∷ (ltb m leastMinimum, Refusal.MinLen) ∷ []) (shapeTests lengths (length run) ++ room) s k i tt e in
       let b = after-others (shapeTests lengths (length run)) room s k i tt (a .1) in
       let c = after-others ((shortRoom n (length lengths) cuts floats indices, Refusal.Room) ∷ []) ((strict && ltb at (length run), Refusal.NonFinite (channelAt n at) (indexAt n at)) ∷ []) s k i tt (b .1) in
       let shape = shapely run lengths (passed-channels (shapeTests lengths (length run)) (Shaped.Channels (length lengths) n) (b .0)) in
@@ -63,7 +68,7 @@ module _ (strict : Bool) (penalty : Penalty) (m : ℕ) (run : List Float) (lengt
     where
       last : Shapely run lengths (length lengths) (firstLength lengths) → (t b : Bool) → ltb (gapTo run (length run)) (length run) ≡ b → let n = firstLength lengths in let at = gapTo run (length run) in
           (ltb at (length run) ≡ true → FirstGap run (length lengths) n (channelAt n at) (indexAt n at))
-          → eight k i ≡ tried ((t && b, Refusal.NonFinite (channelAt n at) (indexAt n at)) ∷ []) s → Gap t run lengths k i
+          → eight k i ≡ tried Answer.Refused ((t && b, Refusal.NonFinite (channelAt n at) (indexAt n at)) ∷ []) s → Gap t run lengths k i
       last shape true true l f e = record { is-strict = refl; shape = shape; first = same-place (FirstGap run (length lengths) (firstLength lengths)) k i _ _ e (f l) }
       last shape true false l f e = absurd (other e)
       last shape false b l f e = absurd (other e)

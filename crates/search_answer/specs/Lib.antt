@@ -1,4 +1,5 @@
 pub mod Tests
 pub mod Search
-pub mod Left
+pub mod Outcome
 pub mod Demand
+pub mod Inner

@@ -10,12 +10,13 @@ use Rattle.noise.specs.Noise.{noiseSumTo}
 use Rattle.costs.specs.Penalties.{penaltyOf}
 use Rattle.costs.specs.declared.CostFunction.{CostFunction}
 use Rattle.costs.specs.declared.CostFunction.the-variants.{L2, Normal}
+use Rattle.search_rules.specs.Limits.{functionalChannels}
 use Rattle.search_rules.specs.Inequality.{price, predecessors}
 use Rattle.search_rules.specs.Functional.{Task, functional}
 use Rattle.backtrack.specs.Cuts.{cutsOf}
 use Rattle.costs.specs.declared.Penalty.{Penalty}
 
--- the resolved penalty
+-- the value of `penalty` for `k` channels of `n` readings in `run`
 unfoldable pub penaltyValue : CostFunction → Penalty → List Float → ℕ → ℕ → Float
 penaltyValue cost penalty run n k = penaltyOf penalty cost n k (noiseSumTo run n k)
 
@@ -29,7 +30,7 @@ functionalCuts task slots = let s = functional task in elim (leb (s .peak) slots
 
 -- L2 on one or two channels takes the functional search, all else the inequality search
 unfoldable pub takesFunctional : CostFunction → ℕ → Bool
-takesFunctional L2 k = leb k 2
+takesFunctional L2 k = leb k functionalChannels
 takesFunctional Normal k = false
 
 unfoldable pub cutsBy : CostFunction → List Float → ℕ → ℕ → ℕ → Float → ℕ → Option (List ℕ)

@@ -1,9 +1,10 @@
-// The tests, one after the other.
+// Refusals 1 to 8 of a search, tried one after the other.
 ghost use mathlib.Core.Path.{_≡_};
 ghost use Prim.Native.Nat.{_≤_};
 ghost use lib.ListN.{length};
-ghost use Rattle.readings.specs.Shape.{shapedBy};
-ghost use Rattle.readings.specs.declared.Shaped.the-variants.{Channels};
+ghost use Rattle.refusals.specs.Limits.{maxChannels, maxReadings};
+ghost use Rattle.refusals.specs.Tried.{tried};
+ghost use Rattle.readings.specs.declared.Shaped.the-variants as Shaped;
 ghost use Rattle.search_answer.specs.Tests.{badPenalty, shortRoom, roomTests, admittedAs};
 use costs::Penalty;
 use floats::finite;
@@ -16,6 +17,7 @@ use refusals::Refusal;
 // The least that a minimum length may be: less is refusal 2.
 const LEAST_MINIMUM: usize = 2;
 
+// Refusal 1: whether `penalty` is a custom one that is not finite or not above 0.
 fn bad_penalty(penalty: Penalty) -> bool
     ensures { λ r. ⌜ r ≡ badPenalty penalty ⌝ }
 {
@@ -25,15 +27,18 @@ fn bad_penalty(penalty: Penalty) -> bool
     }
 }
 
+// Refusal 7: whether areas with room for `cuts` cuts, `floats` floats and `indices` indices are less
+// than `channels` channels of `n` readings ask.
 fn short_room(n: usize, channels: usize, cuts: usize, floats: usize, indices: usize) -> bool
-    requires { ⌜ (n ≤ 4096) × (channels ≤ 8) ⌝ }
+    requires { ⌜ (n ≤ maxReadings) × (channels ≤ maxChannels) ⌝ }
     ensures { λ r. ⌜ r ≡ shortRoom n channels cuts floats indices ⌝ }
 {
     let w = n + 1;
-    (cuts < n / 2) | ((floats < (2 * channels + 2) * w) | (indices < 3 * w))
+    (cuts < n / 2) | !(((2 * channels + 2) * w <= floats) & (3 * w <= indices))
 }
 
-// 7 and 8, for so many channels of n readings.
+// Refusal 7, and 8 where the search is `strict`, or the channels, for `channels` channels of `n`
+// readings in `run`; `cuts`, `floats` and `indices` are the lengths of the lent areas.
 fn roomy(
     strict: bool,
     run: &[f64],
@@ -43,8 +48,8 @@ fn roomy(
     floats: usize,
     indices: usize,
 ) -> Shaped
-    requires { ⌜ (n ≤ 4096) × (channels ≤ 8) ⌝ }
-    ensures { λ r. ⌜ r ≡ shapedBy (roomTests strict (now (run .entry)) n channels cuts floats indices) (Channels channels n) ⌝ }
+    requires { ⌜ (n ≤ maxReadings) × (channels ≤ maxChannels) ⌝ }
+    ensures { λ r. ⌜ r ≡ tried Shaped.Refused (roomTests strict (now (run .entry)) n channels cuts floats indices) (Shaped.Channels channels n) ⌝ }
 {
     if short_room(n, channels, cuts, floats, indices) {
         return Shaped::Refused(Refusal::Room);
@@ -61,9 +66,9 @@ fn roomy(
     }
 }
 
-// The channels of a search with these settings that may begin, or the first refusal; `cuts`, `floats`
-// and `indices` are the lengths of the lent areas. Cost: one turn for each length, and for each reading
-// where the search is strict.
+// The channels that `lengths` make of `run`, where a search with these settings may begin, or the first
+// refusal; `cuts`, `floats` and `indices` are the lengths of the lent areas. Cost: one turn for each
+// length, and for each reading where the search is `strict`.
 pub fn admitted(
     penalty: Penalty,
     min_segment_len: usize,

@@ -2,7 +2,6 @@
 use Prim.Native.Nat.{ℕ, zero, suc, _<_}
 use mathlib.Core.List.{List, [], _∷_, _++_}
 use native.Mathlib.Nat.{not-suc-le-zero, le-of-suc-le-suc}
-use native.Mathlib.Omega.{arith}
 use lib.ListN.{length, getD}
 
 pub data All (P : ℕ → Type 0) : List ℕ → Type 0 where
@@ -21,8 +20,3 @@ all-last (one p r) q = one p (all-last r q)
 pub all-map : {P Q : ℕ → Type 0} {xs : List ℕ} → ((x : ℕ) → P x → Q x) → All P xs → All Q xs
 all-map f none = none
 all-map f (one {x = x} p r) = one (f x p) (all-map f r)
-
--- from a statement by places
-pub all-from : {P : ℕ → Type 0} (xs : List ℕ) → ((j : ℕ) → j < length xs → P (getD xs j 0)) → All P xs
-all-from [] f = none
-all-from (x ∷ xs) f = one (f 0 (omega arith)) (all-from xs (λ j h. f (suc j) (omega arith)))

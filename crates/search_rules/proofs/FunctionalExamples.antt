@@ -16,7 +16,7 @@ use Rattle.costs.specs.Costs.{segmentAbout, segmentOf, l2Cost, costOf, costTo}
 use Rattle.search_rules.specs.Minimum.{noneYet, betterOf, scanTo}
 use Rattle.candidate.specs.Boxes.{spanAt, withSpan, overChannels, alongEach, gap2, narrowed, missed, nothing, restrict}
 use Rattle.candidate.specs.Cuts.{far2, inside, moved, cutEnds, cutSpan, cutBy, cutTo, cutLosing}
-use Rattle.candidate.specs.Compared.{isDominated}
+use Rattle.candidate.specs.Dominated.{isDominated}
 use Rattle.candidate.specs.Losses.{ahead, narrowestTo, displace, loseInside}
 use Rattle.search_rules.specs.Functional.{Task, State, price, places, bestAt, centreAlong, besides, slackOf, facing, lostTo, restricted, cutBack, winnersTo, rangeAlong, rangeBox, born, joinedBy, joinOf, livingAfter, stepOf, stateAfter, functional}
 use Rattle.search_rules.specs.Partitioned.{slotsSuffice}

@@ -1,4 +1,4 @@
--- What holds of the predecessors: each is 0, or at least m and at least m before its t, whatever the readings are. Assumes nothing.
+-- What holds of the predecessors of the functional search: each is 0, or at least m and at least m before its t, whatever the readings are. Assumes nothing.
 use Prim.Native.Nat.{ℕ, zero, suc, _+_, _-_, _≤_}
 use mathlib.Core.Path.{_≡_, refl}
 use mathlib.Core.Bool.{Bool, true, false, cond}
@@ -13,10 +13,10 @@ use Rattle.search_rules.specs.Predecessors.{Placed, start, later, Sound}
 use Rattle.search_rules.proofs.All.{All, none, one, all-at, all-last, all-map}
 use Rattle.search_rules.proofs.MinimumLaws.{scan-is}
 use Rattle.search_rules.proofs.PredecessorLaws.{placed-next, Filled, filled-after}
-use Rattle.candidate.specs.Compared.{isDominated}
+use Rattle.candidate.specs.Dominated.{isDominated}
 use Rattle.search_rules.specs.Functional.{Task, Living, State, places, bestAt, livingAt, restricted, cutBack, lostTo, winnersTo, born, joinedBy, joinOf, livingAfter, stepOf, stateAfter, functional}
 
--- ---- the places of the living candidates
+-- ---- the indices of the living candidates
 pub places-length : (living : List Living) → length (places living) ≡ length living
 unfolding places
 places-length living = length-map living (λ c. c .tau)
@@ -25,7 +25,7 @@ pub places-at : (living : List Living) (j : ℕ) → getD (places living) j 0 �
 unfolding places
 places-at living j = List·getD-map (λ (c : Living). c .tau) living j _
 
--- ---- what holds of each place, and of b, still holds once b has joined
+-- ---- what holds of each candidate's index, and of `b`, still holds once `b` has joined
 joined-all : {P : ℕ → Type 0} (channels : ℕ) (c : Living) (living : List Living) → All P (places living) → P (c .tau) → All P (places (joinedBy channels c living))
 unfolding joinedBy places
 joined-all {P} channels c living r p = go (isDominated channels (c .box))
@@ -45,7 +45,7 @@ join-all : {P : ℕ → Type 0} (k : Task) (f : List Float) (b : ℕ) (living : 
 unfolding joinOf born cutBack
 join-all k f b living r p = joined-all (k .channels) (born k b (lostTo k f b living (length living))) _ (winners-all k f b living (length living) r (omega arith)) p
 
--- ---- each living candidate may be the predecessor of the next t: what joins at the end of step t is m old at t + 1
+-- ---- each living candidate may be the predecessor of the next t: the one that joins at the end of step t is m old at t + 1
 living-placed : (k : Task) (f : List Float) (t : ℕ) (living : List Living) → All (Placed (k .m) t) (places living) → All (Placed (k .m) (t + 1)) (places (livingAfter k f t living))
 unfolding livingAfter
 living-placed k f t living r = go (leb (k .m) (t + 1 - k .m)) refl (all-map (λ x. placed-next) r)

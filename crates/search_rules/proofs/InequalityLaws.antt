@@ -1,4 +1,4 @@
--- What holds of the predecessors: each is 0, or at least m and at least m before its t, whatever the costs are. Assumes nothing.
+-- What holds of the predecessors of the inequality search: each is 0, or at least m and at least m before its t, whatever the costs are. Assumes nothing.
 use Prim.Native.Nat.{ℕ, zero, suc, _+_, _-_, _≤_, _<_}
 use mathlib.Core.Path.{_≡_, refl}
 use mathlib.Core.Logic.{inl, inr}

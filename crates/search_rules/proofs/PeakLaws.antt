@@ -1,8 +1,8 @@
--- The most living candidates that there have been: it is the greatest of their numbers, so slots that are too few at some step are too few for the search. Assumes nothing.
+-- The most living candidates that there have been: `peak` is the greatest of their numbers, so slots that are too few at some step are too few for the search. Assumes nothing.
 use Prim.Native.Nat.{ℕ, zero, suc, _+_, _-_, _≤_, _<_, max}
 use mathlib.Core.Path.{_≡_, refl}
 use mathlib.Core.Bool.{true, false}
-use native.Mathlib.Nat.{le-refl, le-trans, zero-add, le-max-left, le-max-right, max-le}
+use native.Mathlib.Nat.{le-refl, le-trans, le-max-left, le-max-right, max-le}
 use native.Mathlib.Numerals.{add-one}
 use native.Mathlib.Omega.{arith}
 use borrow.Author.Tests.{le-leb, lt-leb}
@@ -15,11 +15,11 @@ peak-next : (k : Task) (d : ℕ) → stateAfter k (suc d) .peak ≡ max (stateAf
 unfolding stateAfter stepOf
 peak-next k d = refl
 
--- in the form of a loop: slots that were enough are enough where the candidates of this step have some
+-- as a loop has it: `slots` that were enough stay enough where the candidates of this step are at most as many
 pub peak-within : (k : Task) (d slots : ℕ) → stateAfter k d .peak ≤ slots → length (stateAfter k (d + 1) .living) ≤ slots → stateAfter k (d + 1) .peak ≤ slots
 peak-within k d slots h l = rw (add-one, peak-next k d) (max-le h (rw (← add-one) l))
 
--- ---- the greatest of the numbers of living candidates: it never falls, is never below them, and is no more than what they all are within
+-- ---- the greatest of the numbers of living candidates: it never falls, is never below them, and is at most any bound that they all keep
 pub peak-rises : (k : Task) (d e : ℕ) → stateAfter k d .peak ≤ stateAfter k (d + e) .peak
 peak-rises k d zero = let q : d + 0 ≡ d = omega arith in rw q (le-refl _)
 peak-rises k d (suc e) = let q : d + suc e ≡ suc (d + e) = omega arith in rw (q, peak-next k (d + e)) (le-trans (peak-rises k d e) (le-max-left _ _))
@@ -33,11 +33,6 @@ pub peak-least : (k : Task) (d slots : ℕ) → ((e : ℕ) → e ≤ d → lengt
 unfolding stateAfter
 peak-least k zero slots f = f 0 (le-refl _)
 peak-least k (suc d) slots f = rw (peak-next k d) (max-le (peak-least k d slots (λ e h. f e (omega arith))) (f (suc d) (le-refl _)))
-
--- there is one at the start
-pub peak-some : (k : Task) (d : ℕ) → 1 ≤ stateAfter k d .peak
-unfolding stateAfter
-peak-some k d = rw zero-add at (peak-rises k 0 d)
 
 -- ---- the slots of the whole search
 pub slots-too-few : (k : Task) (d slots : ℕ) → d ≤ k .n + 1 - k .m → slots < length (stateAfter k d .living) → leb (functional k .peak) slots ≡ false

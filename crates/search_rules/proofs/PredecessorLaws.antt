@@ -1,4 +1,4 @@
--- Laws of sound predecessors: the first list is sound, one more keeps it so, so a search fills it soundly, and a predecessor stands before its t. Assumes nothing.
+-- Laws of sound predecessors: the first list is sound, one more keeps it so, so a search fills it soundly. Assumes nothing.
 use Prim.Native.Nat.{ℕ, zero, suc, _+_, _-_, _≤_, _<_}
 use mathlib.Core.Path.{_≡_, refl, _∙_}
 use mathlib.Core.List.{List}
@@ -24,7 +24,7 @@ sound-set {m} {last} t x s p h = record { placed = λ i. go i (ℕ-discrete i t)
     go i (yes q) = rw (q, getD-set-same last t x 0 h) p
     go i (no f) = rw (getD-set-other last t i x 0 f) (s .placed i)
 
--- ---- a search fills the list from place m on, each place with a predecessor that may stand there
+-- ---- a search fills the list from the index m up, each time with a predecessor that may stand there
 pub record Filled (m n : ℕ) (last : List ℕ) : Type 0 where
   pub sound : Sound m last
   pub long : length last ≡ n + 1
@@ -42,11 +42,7 @@ pub placed-next : {m t tau : ℕ} → Placed m t tau → Placed m (t + 1) tau
 placed-next (start e) = start e
 placed-next (later p q) = later p (omega arith)
 
-pub placed-before : {m t tau : ℕ} → Placed m t tau → 0 < m → 0 < t → tau < t
-placed-before (start e) h l = omega arith
-placed-before (later p q) h l = omega arith
-
--- a candidate is 0 or joined at m or later; once it is m old it may be a predecessor
+-- the candidate `x` is 0 or joined at `m` or later; once it is `m` old it may be a predecessor
 unfoldable pub Joined : ℕ → ℕ → Type 0
 Joined m x = (x ≡ 0) ⊎ (m ≤ x)
 

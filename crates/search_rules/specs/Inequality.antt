@@ -17,23 +17,23 @@ pub record State : Type 0 where
   pub last : List ℕ
   pub candidates : List ℕ
 
--- a candidate takes part in the minimum at t from the age of m on
+-- the candidate `tau` counts in the minimum at `t` from the age of `m` on
 unfoldable pub oldEnough : ℕ → ℕ → ℕ → Bool
 oldEnough m t tau = leb m (t - tau)
 
--- F(tau) and the cost from tau to t; a candidate younger than m is held as minus infinity
+-- the weight of the candidate `tau` at `t`: F(tau), by `f`, plus the cost from `tau` to `t`; a candidate younger than `m` is held as minus infinity
 unfoldable pub partOf : (ℕ → ℕ → Float) → ℕ → List Float → ℕ → ℕ → Float
 partOf cost m f t tau = cond (oldEnough m t tau) (getD f tau nan +ᶠ cost tau t) -∞
 
--- the best at t
+-- the best at `t` of the candidates of `s`: the lowest weight plus `penalty`, among those that are at least `m` old
 unfoldable pub bestAt : (ℕ → ℕ → Float) → Float → ℕ → ℕ → State → Best
 bestAt cost penalty m t s = scanTo (oldEnough m t) (λ tau. partOf cost m (s .f) t tau +ᶠ penalty) (s .candidates) (length (s .candidates))
 
--- a candidate stays exactly when its part is below F(t) plus the penalty, where F(t) is given
+-- the candidate `tau` stays exactly when its weight is below F(t) plus the penalty, where `ft` is F(t)
 unfoldable pub staysAt : (ℕ → ℕ → Float) → Float → ℕ → ℕ → List Float → Float → ℕ → Bool
 staysAt cost penalty m t f ft tau = partOf cost m f t tau <ᶠ ft +ᶠ penalty
 
--- step t: F(t) and its predecessor are noted, candidates go, then t joins
+-- the step at `t`: F(t) and its predecessor are noted, candidates go, then `t` joins
 unfoldable pub stepOf : (ℕ → ℕ → Float) → Float → ℕ → ℕ → State → State
 stepOf cost penalty m t s =
     let best = bestAt cost penalty m t s in
@@ -43,15 +43,15 @@ stepOf cost penalty m t s =
       candidates = keptTo (staysAt cost penalty m t (s .f) (best .cost)) (s .candidates) (length (s .candidates)) ++ (t ∷ []);
     }
 
--- F(0) is minus the penalty; t runs from m: the state after d steps
+-- the state after some steps, t from `m` up: F(0) is minus the penalty, and 0 is the one candidate at first; the last argument says how many steps
 unfoldable pub stateAfter : (ℕ → ℕ → Float) → Float → ℕ → ℕ → ℕ → State
 stateAfter cost penalty m n zero = record { f = set (replicate (n + 1) +0) 0 (neg penalty); last = replicate (n + 1) 0; candidates = 0 ∷ [] }
 stateAfter cost penalty m n (suc d) = stepOf cost penalty m (m + d) (stateAfter cost penalty m n d)
 
--- the last t is n
+-- the predecessors of 0 to `n` after the whole search, whose last t is `n`
 unfoldable pub predecessors : (ℕ → ℕ → Float) → Float → ℕ → ℕ → List ℕ
 predecessors cost penalty m n = stateAfter cost penalty m n (n + 1 - m) .last
 
--- the cost over all channels of a run
+-- the cost by `cost` of the readings from `tau` up to `t`, over the `channels` channels of `run`, of `n` readings each
 unfoldable pub price : CostFunction → List Float → ℕ → ℕ → ℕ → ℕ → Float
 price cost run n channels tau t = costTo cost run n tau t channels

@@ -1,3 +1,4 @@
+pub mod Limits
 pub mod Functional
 pub mod Partitioned
 pub mod Inequality

@@ -7,15 +7,15 @@ use lib.Ieee.{Float}
 use Rattle.floats.specs.Numbers.{_<ᶠ_, +∞}
 use Rattle.search_rules.specs.declared.Best.{Best}
 
--- with no total below infinity the predecessor is 0
+-- the best before the first candidate: with no total below infinity the predecessor is 0
 unfoldable pub noneYet : Best
 noneYet = record { cost = +∞; tau = 0 }
 
--- a total that is strictly below the lowest so far takes its place
+-- `tau` with its `total` where that is strictly below the lowest so far, and `best` otherwise
 unfoldable pub betterOf : Best → Float → ℕ → Best
 betterOf best total tau = cond (total <ᶠ best .cost) (record { cost = total; tau = tau }) best
 
--- the best of the first j candidates, of those that take part
+-- the best by `total` of the first of `candidates`, among those that `takesPart` lets in; the last argument says how many are looked at
 unfoldable pub scanTo : (ℕ → Bool) → (ℕ → Float) → List ℕ → ℕ → Best
 scanTo takesPart total candidates zero = noneYet
 scanTo takesPart total candidates (suc j) =
@@ -23,7 +23,7 @@ scanTo takesPart total candidates (suc j) =
     let tau = getD candidates j 0 in
     cond (takesPart tau) (betterOf before (total tau) tau) before
 
--- those of the first j candidates that stay, in their order
+-- those of the first of `candidates` that pass `stays`, in their order; the last argument says how many are looked at
 unfoldable pub keptTo : (ℕ → Bool) → List ℕ → ℕ → List ℕ
 keptTo stays candidates zero = []
 keptTo stays candidates (suc j) =

@@ -1,4 +1,4 @@
--- What `partition_functional` answers and leaves. Definitions only.
+-- What `partition_functional` answers, and what it leaves in the lent areas. Definitions only.
 use Prim.Native.Nat.{ℕ, _+_, _-_, _/_}
 use mathlib.Core.Path.{_≡_}
 use mathlib.Core.Bool.{Bool, true, false, _&&_, cond}
@@ -7,25 +7,27 @@ use lib.Dec.{leb}
 use lib.ListN.{length, replicate}
 use lib.Ieee.{Float}
 use Rattle.floats.specs.Numbers.{+0}
+use Rattle.search_rules.specs.Limits.{functionalChannels, slotFloats}
 use Rattle.search_rules.specs.Room.{searchFits}
 use Rattle.search_rules.specs.Functional.{Task, functional}
 
--- one or two channels of a run of so many readings, and the work floats and indices of a search
+-- a search of one or two `channels` fits: a run of `run` readings has them, of `n` readings each, `m` is at least 1 and at most `n`, and areas of `floats` floats and `indices` indices are room enough
 unfoldable pub fitsTask : ℕ → ℕ → ℕ → ℕ → ℕ → ℕ → Bool
-fitsTask run n channels m floats indices = leb 1 channels && (leb channels 2 && searchFits run n channels m floats indices)
+fitsTask run n channels m floats indices = leb 1 channels && (leb channels functionalChannels && searchFits run n channels m floats indices)
 
+-- the same of the task `k`
 abbrev pub taskFits : Task → ℕ → ℕ → Bool
 taskFits k floats indices = fitsTask (length (k .run)) (k .n) (k .channels) (k .m) floats indices
 
--- a slot is 200 floats, and slots are whole ones: there are enough for the most living candidates
+-- a pool of `pool` floats has whole slots for the most candidates of the task `k` that live at once
 unfoldable pub slotsSuffice : Task → ℕ → Bool
-slotsSuffice k pool = leb (functional k .peak) (pool / 200)
+slotsSuffice k pool = leb (functional k .peak) (pool / slotFloats)
 
--- the predecessors and zeros after them where there were slots enough, and zeros alone where there were not
+-- what an area of `indices` indices holds after the task `k` with a pool of `pool` floats: the predecessors and zeros behind them where there were slots enough, and zeros alone where there were not
 unfoldable pub indicesAfter : Task → ℕ → ℕ → List ℕ
 indicesAfter k pool indices = cond (slotsSuffice k pool) (functional k .last ++ replicate (indices - (k .n + 1)) 0) (replicate indices 0)
 
--- whether there were slots enough; the predecessors at the front of the indices, and zero everywhere else; `false` and all areas as they were where the search does not fit
+-- `r` says whether there were slots enough; `indices′` has the predecessors at its front, and everything else is zero; where the search does not fit, `r` is `false` and all areas are as they were
 pub record Partitioned (k : Task) (floats floats′ : List Float) (indices indices′ : List ℕ) (pool pool′ : List Float) (r : Bool) : Type 0 where
   pub answer : taskFits k (length floats) (length indices) ≡ true → r ≡ slotsSuffice k (length pool)
   pub found : taskFits k (length floats) (length indices) ≡ true → indices′ ≡ indicesAfter k (length pool) (length indices)

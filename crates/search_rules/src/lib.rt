@@ -5,13 +5,13 @@
 // search: the recurrence F(t) = min F(tau) + cost(tau, t) + penalty, with candidates dropped by the
 // inequality. `specs/Functional` is the functional search, for the L2 cost on one or two channels: a
 // candidate is dropped once no mean is left where it wins; `specs/Partitioned` says what a call of it
-// answers and leaves in the lent areas. Crates `inequality` and `functional` have the code.
+// answers and leaves in the lent areas. The crates `inequality` and `functional` have the code.
 //
-// No function asks anything of its caller. It is proved that each predecessor is 0, or at least m and
-// at least m before its t, whatever the costs are (`proofs/InequalityLaws`, `proofs/FunctionalLaws`),
-// and how many candidates live at most (`proofs/PeakLaws`). Steps of both searches are evaluated
-// (`proofs/InequalityExamples`, `proofs/FunctionalExamples`): these refuse the wrong definitions of
-// `must-fail/`.
+// No function asks anything of its caller. It is proved that each predecessor is 0, or at least m and at
+// least m before its t, whatever the costs are (`proofs/InequalityLaws`, `proofs/FunctionalLaws`), and
+// that `peak` is the most candidates that live at once (`proofs/PeakLaws`). Steps of both searches are
+// evaluated (`proofs/InequalityExamples`, `proofs/FunctionalExamples`): these refuse the wrong
+// definitions of `must-fail/`.
 mod minimum;
 mod room;
 mod slack;
@@ -21,14 +21,15 @@ pub use minimum::none_yet;
 pub use room::search_fits;
 pub use slack::slack_of;
 
-// The lowest total so far, and the candidate that it belongs to.
+// The lowest total so far, `cost`, and the candidate `tau` that it belongs to.
 pub struct Best {
     pub cost: f64,
     pub tau: usize,
 }
 
-// What two candidates a < b mean to each other: a ball about the mean between them, wider by the
-// slack where a may still win, narrower by it where b loses.
+// What two candidates a < b mean to each other: two balls about the mean of the readings between them,
+// with the centre `cx`, `cy` and the squares of their radii. In the `outer` one, wider by the slack, a
+// may still win; in the `inner` one, narrower by it, b loses.
 pub struct Facing {
     pub cx: f64,
     pub cy: f64,

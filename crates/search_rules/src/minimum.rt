@@ -1,9 +1,9 @@
-// The first strict minimum.
+// The first strict minimum of totals, one candidate after another.
 ghost use mathlib.Core.Path.{_≡_};
 ghost use Rattle.search_rules.specs.Minimum.{noneYet, betterOf};
 use crate::Best;
 
-// Before the first candidate: infinity, and 0 for the predecessor where no total is below it.
+// The best before the first candidate: infinity, and 0 for the predecessor where no total is below that.
 pub fn none_yet() -> Best
     ensures { λ r. ⌜ r ≡ noneYet ⌝ }
 {
@@ -13,7 +13,8 @@ pub fn none_yet() -> Best
     }
 }
 
-// The candidate tau where its total is below the lowest so far; a NaN is not, nor is an equal one.
+// The candidate `tau` with its `total` where that is below the lowest so far, and `best` otherwise: a
+// NaN is not below it, nor is an equal total.
 pub fn better(best: Best, total: f64, tau: usize) -> Best
     ensures { λ r. ⌜ r ≡ betterOf best total tau ⌝ }
 {

@@ -68,14 +68,14 @@ held-front : {xs : List Float} {mean : Float} {n : ℕ} {x y : List Float} {b m 
 held-front {n = n} {place = place} f h r =
     record { sums = part-front place (n + 1) f (omega arith) ∙ r .sums; squares = part-front (place + (n + 1)) (n + 1) f (omega arith) ∙ r .squares }
 
--- a change behind them leaves them
+-- a change behind the sums leaves them
 pub sums-kept : {run : List Float} {n k : ℕ} {x y : List Float} {b m : ℕ} → Frame x y b m → k * (2 * (n + 1)) ≤ b → Sums run n k x → Sums run n k y
 sums-kept {run} {n} {k} f h r = record { channel = λ c l. held-front f (omega (arith, mul-room c k (2 * (n + 1)) l)) (r .channel c l) }
 
 pub sums-none : (run : List Float) (n : ℕ) (area : List Float) → Sums run n 0 area
 sums-none run n area = record { channel = λ c l. absurd (not-suc-le-zero l) }
 
--- one channel more
+-- the sums of one channel more, `signal`, behind those of the first `c`
 pub sums-more : {run : List Float} {n c : ℕ} {x y signal : List Float} {m place : ℕ} → Summed signal (meanOf signal) m x y place → signal ≡ channelOf run n c → m ≡ n
     → place ≡ c * (2 * (n + 1)) → Sums run n c x → Sums run n (c + 1) y
 sums-more {run} {n} {c} {x} {y} {signal} {m} {place} r e f g p =

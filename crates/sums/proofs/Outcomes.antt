@@ -1,4 +1,4 @@
--- What `cumulative_sums` and `channel_sums` promise leaves one area. Assumes nothing.
+-- The contracts of `cumulative_sums` and `channel_sums` allow one area. Assumes nothing.
 use Prim.Native.Nat.{ℕ, zero, suc, _+_, _*_, _≤_}
 use native.Mathlib.Nat.{zero-mul, suc-mul, zero-add, le-of-lt, le-refl}
 use mathlib.Core.Path.{_≡_, refl, sym, ap, ap₂, _∙_}

@@ -1,4 +1,4 @@
--- No sum of ours is -0, and where a sum starts shows in nothing but the sign of a mean: from -0 and from +0 the sums are the same unless every reading is -0, and the running sums about the mean are the same always. Assumes nothing.
+-- Where a sum starts shows in nothing but the sign of a mean: from -0 and from +0 the sums are the same unless every reading is -0, and the running sums about the mean are the same always. Assumes nothing.
 use mathlib.Core.Path.{_≡_, refl, sym, ap, _∙_}
 use Prim.Native.Nat.{ℕ, zero, suc, _*_, _^_, _≤_, _<_}
 use native.Mathlib.Nat.{mul-one, zero-mul, mul-pos, zero-lt-suc, not-suc-le-zero, le-of-suc-le-suc, eq-or-lt-of-le}
@@ -13,46 +13,30 @@ use lib.ListN.{length, getD}
 use lib.Ieee.{Float, nan, inf, fin, binary64, prec, up, down, round, add, sub, mul, div, ofInt, fits}
 use lib.Ieee.Back.{round-whole}
 use lib.Ieee.Exact.{HasValue}
-use lib.Ieee.Fits.{up-pos, down-pos, sub-fits, mul-fits}
+use lib.Ieee.Fits.{up-pos, down-pos, mul-fits}
 use lib.Ieee.Scale.{round-same}
-use Rattle.floats.specs.Numbers.{_+ᶠ_, _-ᶠ_, _*ᶠ_, _/ᶠ_, +0, ofWhole}
-use Rattle.floats.specs.MinusZero.{negativeZero}
+use Rattle.floats.specs.Numbers.{_+ᶠ_, _*ᶠ_, _/ᶠ_, +0, ofWhole}
+use Rattle.floats.specs.Inner.MinusZero.{negativeZero}
 use Rattle.floats.proofs.Exact.{only-zero, zero-plus, minus-zero-plus}
-use Rattle.floats.proofs.MinusZero.{no-minus-zero, Plain, plain-is-other, plain-zero, plain-add}
+use Rattle.floats.proofs.MinusZero.{no-minus-zero, Plain, plain-zero, plain-add}
 use Rattle.sums.specs.Sums.{sumTo, meanOf, centred, centredTo, squaresTo}
-use Rattle.sums.specs.Start.{sumFrom, meanFrom, EachFits}
+use Rattle.sums.specs.Inner.Start.{sumFrom, meanFrom, EachFits}
 
--- ---- no sum is -0
-sum-plain : (xs : List Float) → EachFits xs → (i : ℕ) → Plain (sumTo xs i)
-unfolding sumTo
-sum-plain xs held zero = plain-zero
-sum-plain xs held (suc i) = plain-add (getD xs i nan) (sum-plain xs held i) (held i)
-
-centred-plain : (xs : List Float) (mean : Float) (i : ℕ) → Plain (centredTo xs mean i)
-unfolding centredTo centred
-centred-plain xs mean zero = plain-zero
-centred-plain xs mean (suc i) = plain-add (getD xs i nan -ᶠ mean) (centred-plain xs mean i) (sub-fits binary64 (getD xs i nan) mean)
-
+-- ---- no sum of squares is -0
 pub squares-plain : (xs : List Float) (mean : Float) (i : ℕ) → Plain (squaresTo xs mean i)
 unfolding squaresTo
 squares-plain xs mean zero = plain-zero
 squares-plain xs mean (suc i) = let c = centred xs mean i in plain-add (c *ᶠ c) (squares-plain xs mean i) (mul-fits binary64 c c)
 
-pub sum-no-minus-zero : (xs : List Float) → EachFits xs → (i : ℕ) → sumTo xs i ≡ negativeZero → ⊥
-sum-no-minus-zero xs held i = plain-is-other (sum-plain xs held i)
-
-pub running-no-minus-zero : (xs : List Float) (mean : Float) (i : ℕ) → (centredTo xs mean i ≡ negativeZero → ⊥) × (squaresTo xs mean i ≡ negativeZero → ⊥)
-running-no-minus-zero xs mean i = (plain-is-other (centred-plain xs mean i), plain-is-other (squares-plain xs mean i))
-
 -- ---- a sum from -0 on
--- the first i readings are all -0
+-- the first `i` readings of `xs` are all -0
 abbrev AllMinus : List Float → ℕ → Type 0
 AllMinus xs i = (j : ℕ) → j < i → getD xs j nan ≡ negativeZero
 
 one-more : (xs : List Float) (i : ℕ) → AllMinus xs i → getD xs i nan ≡ negativeZero → AllMinus xs (suc i)
 one-more xs i all e j h = elim (eq-or-lt-of-le (le-of-suc-le-suc h)) [ inl q ↦ rw q e | inr l ↦ all j l ]
 
--- their sum is the zero that it starts at
+-- the sum of readings that are all -0 is the zero that it starts at
 sums-of-minus : (xs : List Float) (i : ℕ) → AllMinus xs i → (sumFrom negativeZero xs i ≡ negativeZero) × (sumTo xs i ≡ +0)
 unfolding sumFrom sumTo
 sums-of-minus xs zero all = (refl, refl)
@@ -81,7 +65,7 @@ starts xs held (suc i) = elim (starts xs held i) [
         let before = sums-of-minus xs i all in
         inl (ap (λ (s : Float). s +ᶠ getD xs i nan) (before .0) ∙ minus-zero-plus (getD xs i nan) (held i) ∙ sym (zero-plus (getD xs i nan) (held i) h) ∙ ap (λ (s : Float). s +ᶠ getD xs i nan) (sym (before .1)))
 
--- it is the sum from +0 on where some reading is not -0
+-- the sum from -0 on is the sum from +0 on where some reading, `j`, is not -0
 pub sum-from-minus-zero : (xs : List Float) → EachFits xs → (i j : ℕ) → j < i → (getD xs j nan ≡ negativeZero → ⊥) → sumFrom negativeZero xs i ≡ sumTo xs i
 sum-from-minus-zero xs held i j h other = elim (starts xs held i) [ inl e ↦ e | inr all ↦ absurd (other (all j h)) ]
 
@@ -112,7 +96,7 @@ zero-over z n h l = go (round binary64 false n 1) (round-whole binary64 false n 
     go (fin true (suc m) d) v = absurd (true≢false (v .0))
     go (fin false (suc m) d) v = zero-over-some z m d
 
--- whose readings are all -0: they are +0
+-- the running sums of readings that are all -0 are +0, about either zero
 minus-about : (xs : List Float) (z : Bool) (i : ℕ) → AllMinus xs i → (centredTo xs (fin z 0 (pos 0)) i ≡ +0) × (squaresTo xs (fin z 0 (pos 0)) i ≡ +0)
 unfolding centredTo squaresTo centred
 minus-about xs z zero all = (refl, refl)
@@ -123,7 +107,7 @@ minus-about xs false (suc i) all =
     let before = minus-about xs false i (λ j h. all j (omega (arith, h))) in
     (rw (before .0, all i (omega arith)) (unfold add sub in refl), rw (before .1, all i (omega arith)) (unfold add sub mul in refl))
 
--- they are the same from either start, of as many readings as a float counts
+-- the running sums are the same about either mean, for at most 2 ^ 53 readings
 pub running-from-minus-zero : (xs : List Float) → EachFits xs → length xs ≤ 2 ^ prec binary64 → (i : ℕ) → i ≤ length xs
     → (centredTo xs (meanFrom negativeZero xs) i ≡ centredTo xs (meanOf xs) i) × (squaresTo xs (meanFrom negativeZero xs) i ≡ squaresTo xs (meanOf xs) i)
 unfolding meanFrom meanOf centredTo squaresTo

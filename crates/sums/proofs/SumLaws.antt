@@ -27,7 +27,7 @@ pub squares-more : (xs : List Float) (mean : Float) (i : ℕ) (s : Float) → s 
 unfolding squaresTo centred
 squares-more xs mean i s e = rw (add-one, e)
 
--- the sums of 0 to i readings stand in an area that has room for those of n
+-- `after` holds the sums of 0 to `i` readings and of their squares, in the part of `before` at `place` that has room for those of `n`
 pub record SummedTo (xs : List Float) (mean : Float) (i n : ℕ) (before after : List Float) (place : ℕ) : Type 0 where
   pub sums : part after place (i + 1) ≡ tab (centredTo xs mean) (i + 1)
   pub squares : part after (place + (n + 1)) (i + 1) ≡ tab (squaresTo xs mean) (i + 1)
@@ -58,7 +58,7 @@ summed-more xs mean i n x y place j k a b r h l e f p q =
       frame = frame-set k b (frame-set j a (r .frame) (omega arith) (omega arith)) (omega arith) (omega arith);
     }
 
--- the same against the area as it is now, and against the area as it was before
+-- the same with the area as it is now for `before`, and with an earlier one
 pub summed-here : {xs : List Float} {mean : Float} {i n : ℕ} {x y : List Float} {place : ℕ} → SummedTo xs mean i n x y place → SummedTo xs mean i n y y place
 summed-here {n = n} {y = y} {place = place} r = record { sums = r .sums; squares = r .squares; frame = frame-refl y place (2 * (n + 1)) }
 

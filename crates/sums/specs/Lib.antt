@@ -1,3 +1,3 @@
 pub mod Sums
 pub mod EachChannel
-pub mod Start
+pub mod Inner

@@ -4,8 +4,8 @@ ghost use Prim.Native.Nat.{_+_, _*_, _≤_};
 ghost use lib.ListN.{length};
 ghost use Rattle.sums.specs.Sums.{Summed, Ran, twoRuns};
 
-// Whether an area of so many places has two runs of n + 1 from a place on; no sum is formed that
-// could wrap.
+// Whether an area of `size` floats has room at `place` for two parts of `n` + 1 floats; no sum is formed
+// that could wrap.
 fn two_runs(size: usize, n: usize, place: usize) -> bool
     ensures { λ r. ⌜ r ≡ twoRuns size n place ⌝ }
 {
@@ -16,7 +16,8 @@ fn two_runs(size: usize, n: usize, place: usize) -> bool
     false
 }
 
-// Cost: one turn for each reading.
+// Sets the part of `area` at `place` to the sums of the first 0, 1, .. readings of `channel`, each less
+// `mean`, and the part behind it to the sums of their squares. Cost: one turn for each reading.
 pub(crate) fn run_on(channel: &[f64], mean: f64, area: &mut [f64], place: usize)
     requires { ⌜ place + 2 * (length (now channel) + 1) ≤ length (now area) ⌝ }
     ensures { λ r. ⌜ Summed (now (channel .entry)) mean (length (now (channel .entry))) (now (area .entry)) (now (area .exit)) place ⌝ }
@@ -37,8 +38,9 @@ pub(crate) fn run_on(channel: &[f64], mean: f64, area: &mut [f64], place: usize)
     }
 }
 
-// The sums of 0, 1, .. readings less the mean at a place of the area, and those of their squares after
-// them; nothing where the area has no room for both.
+// Sets the `channel.len() + 1` floats of `area` at `place` to the sums of the first 0, 1, .. readings of
+// `channel`, each less `mean`, and as many floats behind them to the sums of their squares. Where `area`
+// has no room for both, it stays as it was.
 pub fn cumulative_sums(channel: &[f64], mean: f64, area: &mut [f64], place: usize)
     ensures { λ r. ⌜ Ran (now (channel .entry)) mean (now (area .entry)) (now (area .exit)) place ⌝ }
 {

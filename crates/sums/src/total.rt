@@ -3,8 +3,8 @@ ghost use mathlib.Core.Path.{_≡_};
 ghost use Rattle.sums.specs.Sums.{meanOf};
 use std::num::nearest_u64_to_f64;
 
-// The sum of the readings from index 0 up, over their number; NaN without readings. Cost: one turn for
-// each reading.
+// The sum of the readings of `channel` from the index 0 up, over their number; NaN without readings.
+// Cost: one turn for each reading.
 pub fn mean(channel: &[f64]) -> f64
     ensures { λ r. ⌜ r ≡ meanOf (now (channel .entry)) ⌝ }
 {

@@ -1,3 +1,4 @@
 pub mod Contracts
 pub mod Equal
 pub mod Tables
+pub mod Limits

@@ -10,7 +10,7 @@ use Rattle.floats.specs.Ahead.{ahead}
 use Rattle.elementary.specs.Root.{sqrt}
 use Rattle.elementary.specs.Power.{powi, powFrom}
 use Rattle.elementary.specs.Logarithm.{ln, lnScaled, lnOf, series}
-use Rattle.refusals.specs.Said.{tried}
+use Rattle.refusals.specs.Tried.{tried}
 use Rattle.areas.specs.Parts.{part, tab}
 use Rattle.readings.specs.Shape.{totalTo, sameTo, shapeTests}
 use Rattle.readings.specs.Gaps.{gapTo, channelAt, indexAt}
@@ -26,27 +26,28 @@ use Rattle.search_rules.specs.Minimum.{noneYet, betterOf, scanTo, keptTo}
 use Rattle.search_rules.specs.Inequality as Inequality
 use Rattle.candidate.specs.Boxes.{spanAt, withSpan, overChannels, alongEach, gap2, narrowed, missed, nothing, restrict}
 use Rattle.candidate.specs.Cuts.{far2, inside, moved, cutEnds, cutSpan, cutBy, cutTo, cutLosing}
-use Rattle.candidate.specs.Compared.{isDominated}
+use Rattle.candidate.specs.Dominated.{isDominated}
 use Rattle.candidate.specs.Losses.{narrowestTo, displace, loseInside}
 use Rattle.search_rules.specs.Functional.{price, places, bestAt, centreAlong, besides, slackOf, facing, lostTo, restricted, cutBack, winnersTo, rangeAlong, rangeBox, born, joinedBy, joinOf, livingAfter, stepOf, stateAfter, functional}
 use Rattle.backtrack.specs.Cuts.{predecessorOf, backFrom, cutsOf}
-use Rattle.search_answer.specs.Tests.{badPenalty, shortRoom, roomTests, searchTests, passed}
+use Rattle.search_answer.specs.Tests.{badPenalty, shortRoom, roomTests, searchTests}
 use Rattle.search_answer.specs.Search.{penaltyValue, prunedCuts, functionalCuts, takesFunctional, cutsBy, cutsWith, cutsFound}
-use Rattle.search_answer.specs.Left.{foundSaid, cutsLeft, areaLeft}
+use Rattle.search_answer.specs.Outcome.{foundOutcome, outcomeBy}
+use Rattle.search_rules.specs.Room.{roomFits}
 use Rattle.charts.specs.Answers.{chartAnswer}
 use Rattle.cusum.specs.Chart as Cusum
 use Rattle.cusum.specs.RunLength.{heardFrom, heard, runLength}
 use Rattle.ewma.specs.Chart as Ewma
-use Rattle.worked_examples.specs.Calls.{Call, Outcome, areasLeft, searchOutcome, resolvedBy, writtenBy, outcome}
+use Rattle.worked_examples.specs.Calls.{Call, Outcome, resolvedBy, outcome}
 use Rattle.worked_examples.specs.Rows.{Row, Hold, sumsFrom, averagesFrom, ballsFrom}
 use Rattle.worked_examples.specs.Marked.{markedRows}
 use Rattle.worked_examples.specs.Further.{functionalRows, slackRows, roundingRows, furtherRoundingRows, inequalityRows, noiseRows, penaltyRows, refusalRows, chartRows, ballRows, furtherRows}
 
 -- an outcome, opened: to unfold it is to unfold all that the line names
 opened : Call → Outcome
-unfolding outcome searchOutcome resolvedBy areasLeft writtenBy ballsFrom sumsFrom averagesFrom chartAnswer Cusum.stepOf Cusum.newOf Cusum.accepted heardFrom heard runLength Ewma.stepOf Ewma.newOf Ewma.accepted Ewma.halfWidth
-    searchTests roomTests shortRoom badPenalty shapeTests totalTo sameTo gapTo channelAt indexAt tried passed
-    cutsFound cutsWith cutsBy takesFunctional functionalCuts prunedCuts penaltyValue penaltyOf bicPenalty foundSaid cutsLeft areaLeft cutsOf backFrom predecessorOf
+unfolding outcome resolvedBy ballsFrom sumsFrom averagesFrom chartAnswer Cusum.stepOf Cusum.newOf Cusum.accepted heardFrom heard runLength Ewma.stepOf Ewma.newOf Ewma.accepted Ewma.halfWidth
+    searchTests roomTests shortRoom roomFits badPenalty shapeTests totalTo sameTo gapTo channelAt indexAt tried
+    cutsFound cutsWith cutsBy takesFunctional functionalCuts prunedCuts penaltyValue penaltyOf bicPenalty foundOutcome outcomeBy cutsOf backFrom predecessorOf
     noiseSumTo noise spreadOf floorOf median differences differenceAt sorted insert tab
     functional stateAfter stepOf livingAfter joinOf joinedBy born rangeBox rangeAlong winnersTo cutBack restricted lostTo facing slackOf besides centreAlong bestAt places price
     Inequality.oldEnough Inequality.partOf Inequality.bestAt Inequality.staysAt Inequality.stepOf Inequality.stateAfter Inequality.predecessors Inequality.price

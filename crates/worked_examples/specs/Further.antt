@@ -8,7 +8,7 @@ use Rattle.floats.specs.Numbers.{+0, +∞, -∞, ofWhole, ratio}
 use Rattle.refusals.specs.Stated.{plain}
 use Rattle.costs.specs.declared.CostFunction.the-variants.{L2, Normal}
 use Rattle.costs.specs.declared.Penalty.the-variants.{Bic, Custom}
-use Rattle.candidate.specs.declared.Ball.{Ball}
+use Rattle.candidate_balls.specs.declared.Ball.{Ball}
 use Rattle.cusum.specs.Chart as Cusum
 use Rattle.cusum.specs.declared.Cusum.{Cusum}
 use Rattle.cusum.specs.declared.Side.the-variants.{Upper, Lower}

@@ -1,5 +1,5 @@
 -- How the tables write a call and what it is to come to. Every place that is lent holds 7. Definitions only.
-use Prim.Native.Nat.{ℕ, zero, suc, _+_, _*_, _/_, _^_}
+use Prim.Native.Nat.{ℕ, zero, suc, _+_, _*_, _^_}
 use mathlib.Core.Path.{_≡_}
 use mathlib.Core.Bool.{Bool, true, false}
 use mathlib.Core.List.{List, [], _∷_, _++_, map}
@@ -18,9 +18,12 @@ use Rattle.cusum.specs.declared.Side.{Side}
 use Rattle.ewma.specs.declared.Ewma.{Ewma}
 use Rattle.ewma.specs.declared.EwmaResult.{EwmaResult}
 use Rattle.candidate.specs.Boxes.{ballOf}
-use Rattle.candidate.specs.declared.Ball.{Ball}
+use Rattle.candidate_balls.specs.declared.Ball.{Ball}
 use Rattle.pelt.specs.Detected.{withMinSegmentLen}
-use Rattle.worked_examples.specs.Calls.{Areas, Search, Call, search, resolve, cusum, cusumPoints, runLength, ewma, ewmaPoints, lose, Outcome, searched, resolved, sums, averages, points, heard, losing, outcome}
+use Rattle.search_rules.specs.Limits.{slotFloats}
+use Rattle.search_rules.specs.Room.{cutsFor, floatsFor, indicesFor}
+use Rattle.search_answer.specs.Outcome.{Areas}
+use Rattle.worked_examples.specs.Calls.{Search, Call, search, resolve, cusum, cusumPoints, runLength, ewma, ewmaPoints, lose, Outcome, searched, resolved, sums, averages, points, heard, losing, outcome}
 
 -- a call, and what it is to come to
 pub record Row : Type 0 where
@@ -35,7 +38,7 @@ Hold rows = map (λ (r : Row). outcome (r .call)) rows ≡ map (λ (r : Row). r 
 abbrev pub wholes : List ℕ → List Float
 wholes = map (λ n. ofWhole n)
 
--- decimals with ten places, as so many ten-billionths
+-- numbers of ten-billionths as readings: decimals with ten digits behind the point
 abbrev pub tenBillionths : List ℕ → List Float
 tenBillionths = map (λ n. ratio n (10 ^ 10))
 
@@ -45,20 +48,20 @@ ofPattern n = ofBits binary64 n
 
 -- ---- searches
 
--- a custom penalty, and one of so many halves
+-- the custom penalty `n`, and `n` halves
 abbrev pub custom : ℕ → Penalty
 custom n = Custom (ofWhole n)
 
 abbrev pub halves : ℕ → Penalty
 halves n = Custom (ratio n 2)
 
--- areas of so many cuts, floats, indices and pool floats
+-- areas of `cuts` cuts, `floats` floats, `indices` indices and `pool` floats of the pool, with 7 everywhere
 abbrev pub sevens : ℕ → ℕ → ℕ → ℕ → Areas
 sevens cuts floats indices pool = record { cuts = replicate cuts 7; floats = replicate floats (ofWhole 7); indices = replicate indices 7; pool = replicate pool (ofWhole 7) }
 
--- exactly the room that k channels of n readings ask for, and some slots
+-- exactly the room that `k` channels of `n` readings ask for, and `slots` slots
 abbrev pub roomFor : ℕ → ℕ → ℕ → Areas
-roomFor n k slots = sevens (n / 2) ((2 * k + 2) * (n + 1)) (3 * (n + 1)) (200 * slots)
+roomFor n k slots = sevens (cutsFor n) (floatsFor n k) (indicesFor n) (slotFloats * slots)
 
 -- with areas of its own: strict or not, cost, penalty, m, run, lengths
 abbrev pub within : Areas → Bool → CostFunction → Penalty → ℕ → List Float → List ℕ → Search
@@ -80,7 +83,7 @@ abbrev pub cleared : Areas → List ℕ → Areas
 cleared before cuts =
     record { cuts = cuts; floats = replicate (length (before .floats)) +0; indices = replicate (length (before .indices)) 0; pool = replicate (length (before .pool)) +0 }
 
--- so many cuts, and what the cuts area holds then
+-- the search finds `count` cuts, and the cuts area holds `cuts` then
 abbrev pub finds : Search → ℕ → List ℕ → Row
 finds s count cuts = record { call = search s; expected = searched (answered (count ∷ [])) (cleared (s .areas) cuts) }
 
@@ -96,7 +99,7 @@ refuses s reason = record { call = search s; expected = searched (refused reason
 abbrev pub resolves : Search → Float → Row
 resolves s penalty = record { call = resolve s; expected = resolved penalty }
 
--- 8, with the channel and the index
+-- refusal 8, with `channel` and `index`
 abbrev pub gapAt : ℕ → ℕ → Stated
 gapAt channel index = record { number = 8; values = channel ∷ index ∷ [] }
 
@@ -109,7 +112,7 @@ lentSums = record { «s_upper» = ofWhole 7; «s_lower» = ofWhole 7; signal = t
 abbrev pub lentAverage : EwmaResult
 lentAverage = record { ewma = ofWhole 7; ucl = ofWhole 7; lcl = ofWhole 7; signal = true; index = record { 0 = 7 } }
 
--- records by the upper sum, the lower sum and the signal, their indices from i on
+-- records by the upper sum, the lower sum and the signal; the first has the index `i`, the next `i + 1`
 unfoldable pub sumsFrom : ℕ → List (Float × Float × Bool) → List CusumResult
 sumsFrom i [] = []
 sumsFrom i ((upper, lower, signal) ∷ shown) = record { «s_upper» = upper; «s_lower» = lower; signal = signal; index = record { 0 = i } } ∷ sumsFrom (suc i) shown
@@ -127,14 +130,14 @@ abbrev pub averagesAre : Ewma → List Float → List (Float × Float × Float �
 averagesAre c xs shown =
     record { call = ewma c xs (replicate (length xs + 1) lentAverage); expected = averages (answered (length xs ∷ [])) (averagesFrom 0 shown ++ (lentAverage ∷ [])) }
 
--- `signal_points` with exactly the room that it needs: so many points, and what the slice holds then
+-- `signal_points` with exactly the room that it needs: it marks `count` readings, and the slice holds `left` then
 abbrev pub sumsSignal : Cusum → List Float → ℕ → List ℕ → Row
 sumsSignal c xs count left = record { call = cusumPoints c xs (replicate (length xs) 7); expected = points (answered (count ∷ [])) left }
 
 abbrev pub averagesSignal : Ewma → List Float → ℕ → List ℕ → Row
 averagesSignal c xs count left = record { call = ewmaPoints c xs (replicate (length xs) 7); expected = points (answered (count ∷ [])) left }
 
--- a refusal of `analyze`, with room for so many records, which stay as they were
+-- a refusal of `analyze`, with room for `room` records, which stay as they were
 abbrev pub sumsRefuse : Cusum → List Float → ℕ → Stated → Row
 sumsRefuse c xs room reason = record { call = cusum c xs (replicate room lentSums); expected = sums (refused reason) (replicate room lentSums) }
 
@@ -154,7 +157,7 @@ refusesToHear c level side reason = record { call = runLength c level side; expe
 abbrev pub ball : ℕ → Float → Ball
 ball centre r2 = ballOf (ofWhole centre) (ofWhole (10 + centre)) r2
 
--- so many of them, about this number and those after it, each as wide as its number
+-- `count` balls, about `centre` and the numbers after it, each as wide as its number
 unfoldable pub ballsFrom : ℕ → ℕ → List Ball
 ballsFrom centre zero = []
 ballsFrom centre (suc count) = ball centre (ofWhole centre) ∷ ballsFrom (suc centre) count

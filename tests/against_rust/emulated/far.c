@@ -73,7 +73,7 @@ struct slice {
     void *things;
     word count;
 };
-// Things of so many bytes; the next begins with a new word.
+// Things of `size` bytes; the next begins with a new word.
 static struct slice slice(word size) {
     word count = number();
     struct slice s = {at, count};

@@ -45,7 +45,7 @@ fn readings(random: &mut Random, count: usize) -> Vec<f64> {
     (0..count).map(|_| one() as f64 / 1e10 * scale).collect()
 }
 
-/// 0 for BIC, or a fraction with a small denominator, of every fourth so many billionths.
+/// 0 for BIC, or a fraction with a small denominator, one in four of them a billionth of that.
 fn penalty(random: &mut Random) -> f64 {
     if random.below(6) == 0 {
         return 0.0;

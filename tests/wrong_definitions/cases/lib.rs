@@ -1,6 +1,6 @@
 //! What the model of the definitions is held to: calls, each with what it is to come to. They are the rows
-//! of `crates/worked_examples/specs`, read from those files, and the stored cases of the crates `replay_*`, read
-//! from their standard input. Nothing here computes what a definition says.
+//! of `crates/worked_examples/specs`, read from those files, and the stored cases of the crates `replay_*`,
+//! read from their standard input. Nothing here computes what a definition says.
 
 mod charts;
 mod drawn;
@@ -165,8 +165,8 @@ pub enum Function {
     Finite,
 }
 
-/// What is asked. The first ones are those of `crates/worked_examples/specs/Calls.antt`; the others are what stored
-/// cases ask of the definitions that a search, a summary and the program are made of.
+/// What is asked. The first ones are those of `crates/worked_examples/specs/Calls.antt`; the others are what
+/// stored cases ask of the definitions that a search, a summary and the program are made of.
 #[derive(Clone, Debug)]
 pub enum Call {
     Search(Search),
@@ -186,7 +186,7 @@ pub enum Call {
     Piece(Rc<Vec<f64>>, usize, usize),
     /// A penalty for a cost, with n, the channels and the sum of the noise variances.
     Penalty(Penalty, Cost, usize, usize, f64),
-    /// The noise variance of a channel by way of an area, from a place on.
+    /// The noise variance of a channel, worked out in an area at a place.
     Noise(Rc<Vec<f64>>, Vec<f64>, usize),
     /// The sum of those of a run, with n and the channels.
     NoiseSum(Rc<Vec<f64>>, usize, usize, Vec<f64>, usize),

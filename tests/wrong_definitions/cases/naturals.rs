@@ -132,7 +132,7 @@ pub fn nearest(a: &Natural, b: &Natural) -> f64 {
     value(kept + u64::from(up), unit + lost)
 }
 
-/// So many units of 2^unit, exactly, or infinity.
+/// `count` times 2^unit, exactly, or infinity.
 fn value(count: u64, unit: i64) -> f64 {
     let two = |power: i64| f64::from_bits(((power + 1023) as u64) << 52);
     let half = unit / 2;

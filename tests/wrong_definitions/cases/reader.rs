@@ -42,7 +42,7 @@ impl Reader {
         [0; N].map(|_| self.float())
     }
 
-    /// So many readings.
+    /// The next `count` readings.
     pub fn readings(&mut self, count: usize) -> Rc<Vec<f64>> {
         Rc::new((0..count).map(|_| self.float()).collect())
     }

@@ -45,7 +45,7 @@ const FILES: [(&str, &str, Read); 8] = [
     ("replay_sums", "stdin", sums::cases),
     ("replay_cusum", "stdin", charts::cusum_cases),
     ("replay_ewma", "stdin", charts::ewma_cases),
-    ("replay_fields", "stdin", programs),
+    ("replay_cuts", "stdin", programs),
     ("replay_functional", "stdout", ramps),
     ("replay_pelt", "stdin", searches::cases),
 ];

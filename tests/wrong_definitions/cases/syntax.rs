@@ -1,6 +1,6 @@
-//! The language in which the files of `crates/worked_examples/specs` write rows: numbers, names, application, `∷`
-//! and `++`, `+`, `-`, `*` and `^`, tuples and parentheses. A row's name is the first word of the last
-//! comment before it.
+//! The language in which the files of `crates/worked_examples/specs` write rows: numbers, names,
+//! application, `∷` and `++`, `+`, `-`, `*` and `^`, tuples and parentheses. A row's name is the first word of
+//! the last comment before it.
 
 /// An expression, with the name that stands before its first word.
 #[derive(Clone, Debug)]

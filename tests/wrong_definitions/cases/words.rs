@@ -225,7 +225,7 @@ fn custom(value: f64) -> Value {
     Value::Penalty(Penalty::Custom(value))
 }
 
-/// Areas of so many cuts, floats, indices and pool floats, which hold 7.
+/// Areas of `cuts` cuts, `floats` floats, `indices` indices and `pool` pool floats, which hold 7.
 fn sevens([cuts, floats, indices, pool]: [usize; 4]) -> Areas {
     Areas {
         cuts: vec![7; cuts],
@@ -396,7 +396,7 @@ fn ball(centre: usize, r2: f64) -> Ball {
     }
 }
 
-/// So many balls, about this number and those after it, each a little wider than the one before.
+/// `count` balls, about `centre` and the numbers after it, each as wide as its number.
 fn balls_from(centre: usize, count: usize) -> Value {
     let one = |c: usize| Value::Ball(ball(c, c as f64));
     Value::List((centre..centre + count).map(one).collect())

@@ -1,24 +1,24 @@
 //! `crates/worked_examples/specs`: Calls, and what stored cases ask besides.
 
 use crate::candidate::lose_inside;
-use crate::charts::{chart_answer, points, written_by};
+use crate::charts::{analyzed, points, signalled};
 use crate::costs::{area_cost, l2_cost, normal_cost, penalty_of, segment_of};
-use crate::dominance::{functional, Task};
+use crate::cuts_answer::output;
 use crate::elementary::{ln, powi, sqrt};
-use crate::extremes::{about, range_of};
-use crate::fields::output;
 use crate::floats::{abs, finite, larger, smaller};
+use crate::functional::{functional, Task};
 use crate::noise::{lent, noise, noise_sum_to};
 use crate::piece::summarised;
+use crate::ranges::{about, range_of};
 use crate::refusals::{stated, TABLE};
-use crate::searches::{asked, penalty_value, search_outcome};
+use crate::search_answer::{asked, detected, penalty_value};
 use crate::sums::{channels_of, mean_of, summed};
 use crate::{cusum, ewma};
 use cases::{Ball, Call, Chart, CusumResult, EwmaResult, Function, Outcome};
 
 pub fn outcome(call: &Call) -> Outcome {
     match call {
-        Call::Search(s) => search_outcome(s),
+        Call::Search(s) => detected(s),
         Call::Resolve(s) => Outcome::Values(vec![penalty_value(asked(s))]),
         Call::Cusum(c, xs, entry) => cusum_outcome(*c, xs, entry),
         Call::CusumPoints(c, xs, entry) => cusum_points(*c, xs, entry),
@@ -34,31 +34,29 @@ pub fn outcome(call: &Call) -> Outcome {
 
 fn cusum_outcome(chart: Chart, xs: &[f64], entry: &[CusumResult]) -> Outcome {
     let c = cusum::made(chart);
-    let said = chart_answer(cusum::accepted(&c), xs.len(), entry.len(), xs.len());
-    let left = written_by(&said, &cusum::records(&c, xs), entry);
+    let records = cusum::records(&c, xs);
+    let (said, left) = analyzed(cusum::accepted(&c), xs.len(), &records, entry);
     Outcome::Sums(said, left)
 }
 
 fn cusum_points(chart: Chart, xs: &[f64], entry: &[usize]) -> Outcome {
     let c = cusum::made(chart);
     let found = points(&cusum::records(&c, xs), |r| r.signal);
-    let said = chart_answer(cusum::accepted(&c), xs.len(), entry.len(), found.len());
-    let left = written_by(&said, &found, entry);
+    let (said, left) = signalled(cusum::accepted(&c), xs.len(), &found, entry);
     Outcome::Points(said, left)
 }
 
 fn ewma_outcome(chart: Chart, xs: &[f64], entry: &[EwmaResult]) -> Outcome {
     let c = ewma::made(chart);
-    let said = chart_answer(ewma::accepted(&c), xs.len(), entry.len(), xs.len());
-    let left = written_by(&said, &ewma::records(&c, xs), entry);
+    let records = ewma::records(&c, xs);
+    let (said, left) = analyzed(ewma::accepted(&c), xs.len(), &records, entry);
     Outcome::Averages(said, left)
 }
 
 fn ewma_points(chart: Chart, xs: &[f64], entry: &[usize]) -> Outcome {
     let c = ewma::made(chart);
     let found = points(&ewma::records(&c, xs), |r| r.signal);
-    let said = chart_answer(ewma::accepted(&c), xs.len(), entry.len(), found.len());
-    let left = written_by(&said, &found, entry);
+    let (said, left) = signalled(ewma::accepted(&c), xs.len(), &found, entry);
     Outcome::Points(said, left)
 }
 

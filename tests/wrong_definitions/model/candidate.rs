@@ -1,7 +1,7 @@
-//! `crates/candidate/specs`: Boxes, Cuts, Compared, Losses.
+//! `crates/candidate/specs`: Boxes, Cuts, Dominated, Losses.
 
+use crate::candidate_sides::{cut_span, far2, gone, narrowed, Span};
 use crate::floats::{ahead, get, larger};
-use crate::spans::{cut_span, far2, gone, narrowed, Span};
 use cases::Ball;
 
 // ---- Boxes
@@ -104,7 +104,7 @@ pub fn cut_losing(channels: usize, balls: &[Ball], x: Candidate) -> Candidate {
     y
 }
 
-// ---- Compared
+// ---- Dominated
 
 /// Along one of the channels nothing is left.
 pub fn is_dominated(channels: usize, x: &Candidate) -> bool {

@@ -1,18 +1,10 @@
-//! `crates/charts/specs`: Answers; `crates/charts/specs`: Runs; `writtenBy` of `crates/worked_examples/specs/Calls`.
+//! `crates/charts/specs`: Runs, Answers, Outcomes.
 
-use crate::readings::rest_of;
-use crate::refusals::{tried, Refusal};
+use crate::areas::rest_of;
+use crate::refusals::{counted, Refusal, Test};
 use cases::Said;
 
-/// A chart's refusals, for n readings and room for so many results: 11 the settings, 6 too long, 7 the room.
-pub fn chart_answer(accepted: bool, n: usize, room: usize, result: usize) -> Said {
-    let tests = [
-        (!accepted, Refusal::Chart),
-        (4096 < n, Refusal::TooLong),
-        (room < n, Refusal::Room),
-    ];
-    tried(&tests, Said::Answered(vec![result]))
-}
+// ---- Runs
 
 /// The indices whose records signal.
 pub fn points<D>(records: &[D], signals: impl Fn(&D) -> bool) -> Vec<usize> {
@@ -25,10 +17,47 @@ fn lent<D: Clone>(results: &[D], entry: &[D]) -> Vec<D> {
     [results, rest_of(entry, results.len())].concat()
 }
 
-/// A refusal writes no result.
-pub fn written_by<D: Clone>(said: &Said, results: &[D], entry: &[D]) -> Vec<D> {
+// ---- Answers
+
+/// A chart's refusals, for n readings and room for `room` results: 11 the settings, 6 too long, 7 the room.
+fn chart_tests(accepted: bool, n: usize, room: usize) -> Vec<Test> {
+    vec![
+        (!accepted, Refusal::Chart),
+        (4096 < n, Refusal::TooLong),
+        (room < n, Refusal::Room),
+    ]
+}
+
+/// The first of them, or a count.
+fn chart_answer(accepted: bool, n: usize, room: usize, count: usize) -> Said {
+    counted(&chart_tests(accepted, n, room), count)
+}
+
+// ---- Outcomes
+
+/// What a call writes: all of it, and nothing where it refuses.
+fn provided<'a, D>(said: &Said, written: &'a [D]) -> &'a [D] {
     match said {
-        Said::Answered(_) => lent(results, entry),
-        Said::Refused(_) => entry.to_vec(),
+        Said::Answered(_) => written,
+        Said::Refused(_) => &[],
     }
+}
+
+/// `analyze` of n readings: a record for each at the front of the lent ones.
+pub fn analyzed<D: Clone>(accepted: bool, n: usize, records: &[D], entry: &[D]) -> (Said, Vec<D>) {
+    let said = chart_answer(accepted, n, entry.len(), n);
+    let left = lent(provided(&said, records), entry);
+    (said, left)
+}
+
+/// `signal_points` of n readings, which needs room for as many: the indices at the front of the lent ones.
+pub fn signalled(
+    accepted: bool,
+    n: usize,
+    points: &[usize],
+    entry: &[usize],
+) -> (Said, Vec<usize>) {
+    let said = chart_answer(accepted, n, entry.len(), points.len());
+    let left = lent(provided(&said, points), entry);
+    (said, left)
 }

@@ -1,4 +1,4 @@
-//! `crates/costs/specs`: Costs, Penalties, Areas.
+//! `crates/costs/specs`: Costs, Penalties, Summed.
 
 use crate::elementary::ln;
 use crate::floats::get;
@@ -75,7 +75,7 @@ pub fn penalty_of(penalty: Penalty, cost: Cost, n: usize, channels: usize, noise
     }
 }
 
-// ---- Areas
+// ---- Summed
 
 /// A segment of k channels of n readings, within the limits of 8 and 4,096, whose sums an area can hold.
 fn segment_fits(size: usize, n: usize, k: usize, a: usize, b: usize) -> bool {

@@ -1,7 +1,7 @@
 //! `crates/cusum/specs`: Chart, RunLength.
 
 use crate::floats::{finite, larger};
-use crate::refusals::{tried, Refusal};
+use crate::refusals::{refusing, tried, Refusal};
 use cases::{Chart, CusumResult, Said, Side};
 
 // ---- Chart
@@ -122,5 +122,5 @@ pub fn run_length(c: &Cusum, v: f64, side: Side) -> Said {
         (!accepted(c), Refusal::Chart),
         (!finite(v), Refusal::NonFinite(0, 0)),
     ];
-    tried(&tests, Said::Answered(heard(c, v, side)))
+    tried(refusing, &tests, || Said::Answered(heard(c, v, side)))
 }

@@ -33,7 +33,7 @@ fn edge(search: &Drawn, place: usize, mut low: u64, mut high: u64) -> u64 {
     low
 }
 
-/// A search of so many readings, and where one of its numbers has an edge the searches about it.
+/// A search of `n` readings, and where one of its numbers has an edge the searches about it.
 pub fn about_edges(random: &mut Random, n: usize) -> Vec<Drawn> {
     let search = drawn(random, n);
     let place = random.below(search.values.len() as u64) as usize;

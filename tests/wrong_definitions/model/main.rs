@@ -1,46 +1,49 @@
 //! The definitions of `crates/*/specs` that answers are worked out by, written over in Rust: one file a
-//! crate, one function a definition, under the same names and in the same order. It is a reading of the
-//! definitions, plain and not fast, and it is held to every row and every stored case.
+//! crate, but three of `search_rules` (`minimum`, `inequality`, `functional`) and two of `search_answer`
+//! (`search_tests`, `search_answer`); one function a definition, under the same names. Limits stand as
+//! numbers. It is a reading of the definitions, plain and not fast, and it is held to every row and every
+//! stored case.
 //!
 //!     model ROOT rows
 //!     model ROOT stored
 //!
-//! compare the rows of `ROOT/crates/worked_examples/specs`, or the stored cases of `ROOT/crates/replay_*`. Each prints
-//! one line: how many there are, and behind a colon the names of the rows that differ, or the first stored
-//! case that does, at which it ends.
+//! compare the rows of `ROOT/crates/worked_examples/specs`, or the stored cases of `ROOT/crates/replay_*`.
+//! Each prints one line: how many there are, and behind a colon the names of the rows that differ, or the
+//! first stored case that does, at which it ends.
 //!
 //!     model drawn SEED COUNT
 //!     model answers
 //!     model shown
 //!
-//! print small searches that are drawn by a seed, about so many, a line each; and what the searches of such
-//! lines on standard input come to, without and with how a row writes them.
+//! print small searches that are drawn by SEED, about COUNT, a line each; and what the searches of such lines
+//! on standard input come to, without and with how a row writes them.
 
-mod admission;
+mod areas;
 mod backtrack;
 mod calls;
 mod candidate;
+mod candidate_sides;
 mod charts;
 mod costs;
 mod cusum;
-mod dominance;
+mod cuts_answer;
+mod cuts_input;
+mod cuts_output;
 mod edges;
 mod elementary;
 mod ewma;
-mod extremes;
-mod fields;
 mod floats;
-mod form;
-mod lines;
+mod functional;
+mod inequality;
 mod medians;
+mod minimum;
 mod noise;
 mod piece;
-mod pruning;
+mod ranges;
 mod readings;
-mod recurrence;
 mod refusals;
-mod searches;
-mod spans;
+mod search_answer;
+mod search_tests;
 mod sums;
 
 use calls::outcome;
@@ -87,7 +90,7 @@ fn stored(root: &Path) -> (usize, Option<String>) {
     (count, first)
 }
 
-/// Prints about so many searches, those of fewer readings first.
+/// Prints about `count` searches, those of fewer readings first.
 fn print_drawn(seed: u64, count: usize) {
     let mut random = Random::seeded(seed);
     let mut printed = 0;

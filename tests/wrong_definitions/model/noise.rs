@@ -1,9 +1,10 @@
 //! `crates/noise/specs`: Noise.
 
-use crate::extremes::{range_of, Range};
+use crate::areas::{part, rest_of};
 use crate::floats::larger;
 use crate::medians::{differences, median};
-use crate::readings::{channel_of, part, rest_of};
+use crate::ranges::{range_of, Range};
+use crate::readings::channel_of;
 
 /// A median of differences over 0.6745 * 1.4142135623730951.
 fn spread_of(m: f64) -> f64 {
@@ -39,20 +40,19 @@ pub fn noise_sum_to(run: &[f64], n: usize, c: usize) -> f64 {
     sum
 }
 
-/// An area of so many places has room for the differences of n readings from a place on.
+/// An area of `size` floats has room for the differences of n readings at `place`.
 fn has_room(size: usize, n: usize, place: usize) -> bool {
     place + n.saturating_sub(1) <= size
 }
 
-/// The area with +0 at those places.
+/// `area` with +0 for the differences of n readings at `place`.
 fn cleared(area: &[f64], n: usize, place: usize) -> Vec<f64> {
     let zeros = vec![0.0; n.saturating_sub(1)];
     let rest = rest_of(area, place + zeros.len());
     [part(area, 0, place), &zeros, rest].concat()
 }
 
-/// A value found by way of those places, and the area afterwards: NaN and the area as it was where there is
-/// no room.
+/// `value`, and `before` with those floats cleared; NaN and `before` as it was where it has no room for them.
 pub fn lent(value: f64, n: usize, place: usize, before: &[f64]) -> (f64, Vec<f64>) {
     if has_room(before.len(), n, place) {
         (value, cleared(before, n, place))

@@ -1,7 +1,7 @@
 //! `crates/piece/specs`: Piece.
 
 use crate::costs::{l2_cost, segment_of};
-use crate::refusals::{stated, Refusal};
+use crate::refusals::{refusing, tried, Refusal, Test};
 use crate::sums::summed;
 use cases::{pattern, Said};
 
@@ -23,14 +23,18 @@ fn summary_of(xs: &[f64], a: usize, b: usize) -> Summary {
 }
 
 /// 6 above 4,096 readings; 12 unless start < end ≤ length.
+fn piece_tests(xs: &[f64], a: usize, b: usize) -> Vec<Test> {
+    vec![
+        (4096 < xs.len(), Refusal::TooLong),
+        (!(a < b && b <= xs.len()), Refusal::Piece),
+    ]
+}
+
+/// What is said: the length, and the bits of the mean and the spread; or the refusal.
 pub fn summarised(xs: &[f64], a: usize, b: usize) -> Said {
-    if 4096 < xs.len() {
-        return Said::Refused(stated(Refusal::TooLong));
-    }
-    if !(a < b && b <= xs.len()) {
-        return Said::Refused(stated(Refusal::Piece));
-    }
-    let s = summary_of(xs, a, b);
-    let values = [s.mean, s.spread].map(|x| pattern(x) as usize);
-    Said::Answered([&[s.length], &values[..]].concat())
+    tried(refusing, &piece_tests(xs, a, b), || {
+        let s = summary_of(xs, a, b);
+        let values = [s.mean, s.spread].map(|x| pattern(x) as usize);
+        Said::Answered([&[s.length], &values[..]].concat())
+    })
 }

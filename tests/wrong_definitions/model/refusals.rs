@@ -1,4 +1,4 @@
-//! `crates/refusals/specs`: Stated, Said.
+//! `crates/refusals/specs`: Stated, Tried, Said. An answer is what is said of it.
 
 use cases::{Said, Stated};
 
@@ -61,10 +61,25 @@ pub fn stated(refusal: Refusal) -> Stated {
 
 pub type Test = (bool, Refusal);
 
-/// The first refusal whose test holds, and the result where none does.
-pub fn tried(tests: &[Test], result: Said) -> Said {
+/// The first refusal whose test holds, and the result, worked out only then, where none does; `refuse` makes
+/// an answer of a refusal.
+pub fn tried<A>(
+    refuse: impl FnOnce(Refusal) -> A,
+    tests: &[Test],
+    result: impl FnOnce() -> A,
+) -> A {
     match tests.iter().find(|test| test.0) {
-        Some(test) => Said::Refused(stated(test.1)),
-        None => result,
+        Some(test) => refuse(test.1),
+        None => result(),
     }
+}
+
+/// The first refusal whose test holds, and the count where none does.
+pub fn counted(tests: &[Test], count: usize) -> Said {
+    tried(refusing, tests, || Said::Answered(vec![count]))
+}
+
+/// What is said of a refusal.
+pub fn refusing(refusal: Refusal) -> Said {
+    Said::Refused(stated(refusal))
 }

@@ -1,5 +1,5 @@
 -- `c_answers::piece` meets its contract. Assumes nothing.
-use mathlib.Core.Path.{sym, ap, _∙_}
+use mathlib.Core.Path.{sym, ap}
 use borrow.Author.Needs.{needs}
 use lib.Ieee.{ofBits}
 use Rattle.c_answers.specs.Told.{pieceOf}

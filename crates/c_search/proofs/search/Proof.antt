@@ -1,7 +1,6 @@
 -- `c_search::search` meets its contract: the search of `search`, or refusal 10. Assumes nothing.
 use mathlib.Core.Path.{sym, _∙_}
 use Rattle.refusals.specs.declared.Refusal.the-variants as Refusal
-use Rattle.c_search.specs.Asked.{askedTests}
 use Rattle.c_search.proofs.AskedLaws.{goes-on, stops}
 use Rattle.c_search.proofs.search.Statement.{statement}
 use Rattle.c_search.proofs.search.Tie as tie
@@ -34,17 +33,15 @@ same-length-4 : tie.Need-same-length-4
 same-length-4 c = c .before .before .before .before .before .before .before .before .before .find-cuts .kept .1 .1 .1 .1 .1 .1 .1 .1 .1 .0
 
 returns : tie.Need-returns
-unfolding askedTests
 returns c =
-    goes-on _ Refusal.Form (sym (c .before .before .before .before .before .before .before .before .before .before .before .before .before .before .before .before .before .known .ensures) ∙ c .before .before .before .before .before .before .before .before .before .before .before .before .before .before .before .before .if1 .taken)
+    goes-on _ _ _ _ Refusal.Form _ _ _ (sym (c .before .before .before .before .before .before .before .before .before .before .before .before .before .before .before .before .before .known .ensures) ∙ c .before .before .before .before .before .before .before .before .before .before .before .before .before .before .before .before .if1 .taken)
     (rw (c .before .before .before .before .before .before .before .before .before .before .before .before .before .before .before .cost-of .ensures, c .before .before .before .before .before .before .before .before .before .before .before .before .before .before .penalty-of .ensures) at (c .before .before .before .before .before .before .before .before .before .find-cuts .ensures)) (c .told-cuts .ensures)
 
 refused-requires : tie.Need-refused-requires
 refused-requires c κs = tt
 
 returns-2 : tie.Need-returns-2
-unfolding askedTests
-returns-2 c = stops _ Refusal.Form (sym (c .before .before .known .ensures) ∙ c .before .if1 .left) (c .refused .ensures)
+returns-2 c = stops _ _ _ _ Refusal.Form _ (sym (c .before .before .known .ensures) ∙ c .before .if1 .left) (c .refused .ensures)
 
 pub search-spec : {M : Type 1} → statement M
 search-spec = tie.close (tie.spec known-requires cost-of-requires penalty-of-requires find-cuts-requires told-cuts-requires same-length same-length-2 same-length-3 same-length-4 returns refused-requires returns-2)

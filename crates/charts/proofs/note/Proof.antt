@@ -17,13 +17,13 @@ same-length : tie.Need-same-length
 same-length c = search needs
 
 returns : tie.Need-returns
-returns c = record { counted = rw (c .before .if1 .taken, lt-ltb _ _ (c .if2 .taken)); written = rw (c .before .if1 .taken, lt-ltb _ _ (c .if2 .taken)) }
+returns c = rw (c .before .if1 .taken, lt-ltb _ _ (c .if2 .taken))
 
 returns-2 : tie.Need-returns-2
-returns-2 c = record { counted = rw (c .before .if1 .taken, le-ltb _ _ (c .if2 .left)); written = rw (c .before .if1 .taken, le-ltb _ _ (c .if2 .left)) }
+returns-2 c = rw (c .before .if1 .taken, le-ltb _ _ (c .if2 .left))
 
 returns-3 : tie.Need-returns-3
-returns-3 c = record { counted = rw (c .if1 .left); written = rw (c .if1 .left) }
+returns-3 c = rw (c .if1 .left)
 
 pub note-spec : {M : Type 1} → statement M
 note-spec = tie.close (tie.spec mul-points slice-write-points add-result same-length returns returns-2 returns-3)

@@ -22,10 +22,10 @@ answer-requires : tie.Need-answer-requires
 answer-requires c κs = tt
 
 array-share-prefix-bytes : tie.Need-array-share-prefix-bytes
-array-share-prefix-bytes c = answer-inside (c .before .answer .ensures)
+array-share-prefix-bytes c = answer-inside _ (c .before .answer .ensures)
 
 slice-aggregate-write-all : tie.Need-slice-aggregate-write-all
-slice-aggregate-write-all c = sym (length-take-le _ _ (answer-inside (c .before .before .answer .ensures)))
+slice-aggregate-write-all c = sym (length-take-le _ _ (answer-inside _ (c .before .before .answer .ensures)))
 
 write-all-requires : tie.Need-write-all-requires
 write-all-requires c κs = tt

@@ -8,7 +8,7 @@ use mir.Syntax.{w64}
 use mir.Val.{toZ, ofZ}
 use borrow.Author.Needs.{needs}
 use Rattle.io.proofs.Counting.{counts}
-use Rattle.cuts.specs.Input.{takenAs}
+use Rattle.cuts.specs.Inner.Input.{takenAs}
 use Rattle.cuts.proofs.read_input.Statement.{statement}
 use Rattle.cuts.proofs.read_input.Tie as tie
 

@@ -11,7 +11,7 @@ use mir.Val.{toZ, ofZ}
 use mir.Facts.{toZ-ofZ}
 use borrow.Author.Needs.{needs}
 use borrow.Author.Tests.{ltb-true}
-use Rattle.cuts.specs.Input.{takenAs}
+use Rattle.cuts.specs.Inner.Input.{takenAs}
 use Rattle.cuts.proofs.taken.Statement.{statement}
 use Rattle.cuts.proofs.taken.Tie as tie
 

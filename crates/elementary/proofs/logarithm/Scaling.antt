@@ -1,5 +1,4 @@
--- The M and the e of a value: a number that is n of the smallest values, as a significand g of 53 digits times 2 ^ p times 2 ^ -2148, is M * 2 ^ (p - 2096) with M = g * 2 ^ -52,
--- and that M lies in [1, 2) and is exact (`split-exactly`). Assumes nothing.
+-- The M and the e of a value: n of the smallest values, as g * 2 ^ p * 2 ^ -2148 with a g of 53 digits, is M * 2 ^ (p - 2096) with M = g * 2 ^ -52, which lies in [1, 2) and is exact (`split-exactly`). Assumes nothing.
 use mathlib.Core.Path.{_≡_, refl, sym, ap, ap₂, _∙_}
 use mathlib.Core.Bool.{Bool, true, false}
 use mathlib.Core.Logic.{inl, inr}
@@ -14,7 +13,7 @@ use lib.Ieee.Fits.{round-fits}
 use lib.Ieee.Exact.{HasValue, round-exact}
 use lib.Ieee.Scale.{round-same}
 use Rattle.floats.specs.Numbers.{+0, -∞, ratio}
-use Rattle.elementary.specs.Parts.{Scaled}
+use Rattle.elementary.specs.Inner.Parts.{Scaled}
 use Rattle.elementary.specs.Logarithm.{lnScaled, ln}
 use Rattle.floats.proofs.Order.Zero.{equal-to-zero, neither}
 use Rattle.elementary.proofs.parts.Values.{size-is, written, below, value, unit-fits, same-value}
@@ -47,7 +46,7 @@ ln-negative x h k = elim (neither x h k) [
   | inr r ↦ elim r [ inl e ↦ ap ln (sym e) | inr f ↦ ap ln (sym (f .1 .1)) ]
 ]
 
--- what the definition says of n: M = n / 2 ^ d lies in [1, 2), and no rounding touches it
+-- what the definition says of `n`: M = n / 2 ^ d lies in [1, 2), and no rounding changes it
 pub record Split (n d : ℕ) : Type 0 where
   pub low : 2 ^ d ≤ n
   pub high : n < 2 ^ suc d

@@ -14,7 +14,7 @@ use lib.Ieee.Digits.{size-lt, size-le, size-reaches}
 use lib.Ieee.Fits.{down-pos, and-l, and-r}
 use lib.Ieee.Exact.{HasValue}
 use lib.Ieee.Positive.{positive-of-value}
-use Rattle.elementary.specs.Parts.{Scaled, countOf}
+use Rattle.elementary.specs.Inner.Parts.{Scaled, countOf}
 use Rattle.elementary.proofs.parts.Values.{Pattern, pattern-of, count-low, count-high}
 use Rattle.elementary.proofs.parts.Shifts.{shifted, high-scaled, high-root, sig, exp}
 
@@ -57,7 +57,7 @@ digits (fin s (suc m) (negsuc i)) c f h =
     let r : suc i ≤ 1074 = le-of-suc-le-suc (lt-of-not-le (λ (k : suc 1074 ≤ suc i). not-le-of-lt (pow-lt {i = 1074} {j = suc i} k) l)) in
     (suc m, (1074 - suc i, (held s m (negsuc i) f .0, cancel (suc m) c (suc i) (2 ^ 1074) 1074 r refl (h .1))))
 
--- a count of units above zero as an m of 53 digits
+-- `n` units, with `n` above zero, as an m of 53 digits and a power of two
 pub scaled-of : (x : Float) (n : ℕ) → T (fits binary64 x) → HasValue x false n (2 ^ 1074) → 0 < n → (m : ℕ) × ((p : ℕ) × (Scaled m p × (n * 2 ^ 1074 ≡ m * 2 ^ p)))
 scaled-of x n f h p = go (decLe (2 ^ 52) b)
   where

@@ -1,4 +1,4 @@
--- What a program that has compared a value knows of its bit pattern. Assumes nothing.
+-- What code that has compared a value knows of its bit pattern. Assumes nothing.
 use mathlib.Core.Path.{_≡_, refl, ap, subst, _∙_}
 use mathlib.Core.Bool.{true, false, not, false≢true}
 use mathlib.Core.Logic.{inl, inr}
@@ -13,7 +13,7 @@ use Rattle.floats.specs.Numbers.{+0}
 use Rattle.floats.proofs.Order.Zero.{above-zero}
 use Rattle.elementary.proofs.parts.Values.{Pattern, pattern-of}
 
--- what compares below or above another value is no NaN
+-- a value that compares below or above another is no NaN
 pub less-is-no-nan : (x y : Float) → lt x y ≡ true → T (not (isNan x))
 unfolding lt isNan
 less-is-no-nan nan y h = absurd (false≢true h)
@@ -38,7 +38,7 @@ infinite-bits : toBits binary64 (inf false) ≡ 2047 * 2 ^ 52
 unfolding toBits
 infinite-bits = refl
 
--- a value above zero, by whether its pattern is below the infinity's
+-- a value `x` above zero, by whether its pattern is below the infinity's
 module _ (x : Float) (f : T (fits binary64 x)) (above : lt +0 x ≡ true) where
   pub pattern-below : toBits binary64 x < 2047 * 2 ^ 52 → Pattern x (toBits binary64 x)
   pattern-below h = elim (above-zero x above) [

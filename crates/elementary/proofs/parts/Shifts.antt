@@ -4,7 +4,7 @@ use Prim.Native.Nat.{ℕ, _+_, _-_, _*_, _/_, _%_, _^_, _≤_, _<_}
 use native.Mathlib.Nat.{lt-of-not-le, mul-le-mul-right, mul-assoc}
 use native.Mathlib.Omega.{arith}
 use lib.Pow.{pow-add, pow-mono}
-use Rattle.elementary.specs.Parts.{Scaled}
+use Rattle.elementary.specs.Inner.Parts.{Scaled}
 
 -- ---- a subnormal value, doubled j times
 

@@ -17,7 +17,7 @@ use lib.Ieee.Bits.{ofBits-toBits, nanBits-is}
 use lib.Ieee.Exact.{HasValue, odd-sign, units-val}
 use lib.Ieee.Positive.{positive, value-pos}
 use Rattle.floats.specs.Numbers.{smallest}
-use Rattle.elementary.specs.Parts.{countOf}
+use Rattle.elementary.specs.Inner.Parts.{countOf}
 
 -- ---- the number of binary digits, from the powers of two on either side
 pub size-is : (r j : ℕ) → 2 ^ j ≤ r → r < 2 ^ suc j → size r ≡ suc j
@@ -36,7 +36,7 @@ no-zero d n u w p q h =
     let a : 0 * u * w ≡ 0 = ap (λ (z : ℕ). z * w) (zero-mul u) ∙ zero-mul w in
     lt-irrefl 0 (subst (λ (z : ℕ). 0 < z) (sym h ∙ a) (mul-pos p q))
 
--- it is written with an m above zero, and `smallest` counts n
+-- `x` is written with an m above zero, and `smallest` counts `n`
 pub written : (x : Float) (n : ℕ) → HasValue x false n (2 ^ 1074) → 0 < n → (m : ℕ) × ((e : ℤ) × ((x ≡ fin false (suc m) e) × (smallest (suc m) e ≡ n)))
 written nan n h p = absurd h
 written (inf s) n h p = absurd h
@@ -53,7 +53,7 @@ bits-of-value (fin false m e) n h =
     ap (λ (z : ℕ). 0 + (size z - 53) * 2 ^ 52 + z / 2 ^ (size z - 53)) (count-of m (up e) (down e) n (down-pos e) (h .1))
     ∙ ap (λ (z : ℕ). z + n / 2 ^ (size n - 53)) (zero-add ((size n - 53) * 2 ^ 52))
 
--- two values that the format holds are the same where they are as many
+-- two values that the format holds are the same where they are the same number of smallest values
 pub same-value : (x y : Float) (n : ℕ) → T (fits binary64 x) → T (fits binary64 y) → HasValue x false n (2 ^ 1074) → HasValue y false n (2 ^ 1074) → x ≡ y
 same-value x y n f g h k =
     sym (ofBits-toBits binary64 x f) ∙ ap (ofBits binary64) (bits-of-value x n h ∙ sym (bits-of-value y n k)) ∙ ofBits-toBits binary64 y g
@@ -64,7 +64,7 @@ value-is-no-nan nan n c h = absurd h
 value-is-no-nan (inf s) n c h = refl
 value-is-no-nan (fin s m e) n c h = refl
 
--- ---- the bit pattern of g * 2 ^ k of them, for a g of 53 digits, or the next one
+-- ---- the bit pattern of g * 2 ^ k smallest values, for a g of 53 digits, or 2 ^ 53
 
 module _ (g k : ℕ) (lo : 2 ^ 52 ≤ g) (hi : g ≤ 2 ^ 53) (small : k ≤ 2044) where
   pub below : g * 2 ^ k < 2 ^ 2098
@@ -156,7 +156,7 @@ pub count-high : (b : ℕ) → 2 ^ 52 ≤ b → countOf b ≡ (b % 2 ^ 52 + 2 ^ 
 unfolding countOf
 count-high b h = ap (λ (t : Bool). cond t ((b % 2 ^ 52 + 2 ^ 52) * 2 ^ (b / 2 ^ 52 - 1)) b) (le-leb (2 ^ 52) b h)
 
--- what a bit pattern b says of a value x that is finite and above zero
+-- what the bit pattern `b` says of the value `x`, finite and above zero
 pub record Pattern (x : Float) (b : ℕ) : Type 0 where
   pub under : b < 2047 * 2 ^ 52
   pub some : 0 < b

@@ -7,7 +7,7 @@ use lib.Ieee.{Float}
 use Rattle.floats.specs.Numbers.{_*ᶠ_}
 use Rattle.elementary.specs.Power.{timesIf, powFrom}
 
--- any two bounds that are at least n serve alike
+-- any two bounds `k` and `j` that are at least `n` serve alike
 pub same-powers : (k j n : ℕ) (b r : Float) → n ≤ k → n ≤ j → powFrom k n b r ≡ powFrom j n b r
 unfolding powFrom
 same-powers zero zero n b r h g = refl
@@ -18,7 +18,7 @@ same-powers (suc k) zero (suc n) b r h g = absurd (not-suc-le-zero g)
 same-powers (suc k) (suc j) zero b r h g = refl
 same-powers (suc k) (suc j) (suc n) b r h g = same-powers k j (suc n / 2) (b *ᶠ b) (timesIf (suc n % 2) r b) (omega arith) (omega arith)
 
--- a turn at an n above 0
+-- one turn, for an `n` above 0
 pub one-turn : (n : ℕ) (b r : Float) → 0 < n → powFrom n n b r ≡ powFrom (n / 2) (n / 2) (b *ᶠ b) (timesIf (n % 2) r b)
 unfolding powFrom
 one-turn zero b r h = absurd (not-suc-le-zero h)

@@ -6,7 +6,7 @@ use Prim.Native.Nat.{ℕ, _*_, _^_, _<_}
 use lib.Ieee.{Float, nan, inf, eq, lt}
 use lib.Ieee.Exact.{HasValue}
 use Rattle.floats.specs.Numbers.{+0}
-use Rattle.elementary.specs.Parts.{countOf}
+use Rattle.elementary.specs.Inner.Parts.{countOf}
 use Rattle.elementary.specs.Root.{sqrt, nearRoot}
 use Rattle.elementary.proofs.parts.Values.{Pattern, written}
 use Rattle.floats.proofs.Order.Zero.{equal-to-zero, neither}

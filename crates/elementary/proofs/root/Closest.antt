@@ -1,6 +1,4 @@
--- The law that characterises `sqrt`: no other value of binary64 is as near to the root. For an x above zero, which is n units of 2 ^ -1074, the root is √(n * 2 ^ 1074)
--- units; its value is R units, and any other value of the format, c units, lies beyond the root from R: the middle of the two, (R + c) / 2, is above the root where c is above R, and
--- below it where c is below R. Both are said squared, and times 4. Assumes nothing.
+-- The law that characterises `sqrt`: any other value of binary64 lies beyond the root from it. Of the two, R and c units of 2 ^ -1074, the middle (R + c) / 2 is above the root where c is above R, and below it where c is below R; both are said squared, and times 4. Assumes nothing.
 use mathlib.Core.Path.{_≡_, sym, ap, subst, _∙_}
 use mathlib.Core.Bool.{false}
 use Prim.Native.Nat.{ℕ, suc, _+_, _-_, _*_, _/_, _^_, _≤_, _<_}
@@ -13,7 +11,7 @@ use lib.Pow.{pow-pos, pow-mono, pow-add}
 use lib.Ieee.{Float, binary64, fits, units}
 use lib.Ieee.Exact.{HasValue}
 use Rattle.elementary.specs.Root.{sq, wholeRoot, nearRoot, sqrt}
-use Rattle.elementary.specs.Parts.{Near}
+use Rattle.elementary.specs.Inner.Parts.{Near}
 use Rattle.elementary.proofs.root.Digits.{square-sum}
 use Rattle.elementary.proofs.root.Roots.{whole-root, square-above-four, square-below-four}
 use Rattle.elementary.proofs.parts.Values.{value, unit-fits}
@@ -24,7 +22,7 @@ use Rattle.elementary.proofs.root.Settles.{guess-near, next-near}
 
 -- ---- whole numbers
 
--- a nearest root is there
+-- every `x` above zero has a nearest root
 near-exists : (x : ℕ) → 0 < x → (g : ℕ) × Near x g
 near-exists x p = go (decLe x (r * r + r))
   where
@@ -67,7 +65,7 @@ multiple c q j k h e = go (decLe k j)
         inr (lt-of-le-of-lt (le-of-eq e)
         (lt-of-lt-of-le (mul-lt-mul-of-pos-right h (pow-pos j)) (le-trans (le-of-eq (sym (pow-add 2 53 j))) (le-trans (pow-mono l) (le-of-eq (pow-add 2 52 k))))))
 
--- c lies on the far side of the root from g * 2 ^ k
+-- `c` lies on the far side of the root of `n` from `r`
 abbrev pub Farther : ℕ → ℕ → ℕ → Type 0
 Farther n r c = (r < c → 4 * n < sq (r + c)) × (c < r → sq (r + c) < 4 * n)
 
@@ -124,7 +122,7 @@ farther n x k g e lo G v c q j h w = (above, below)
         ]
 
 -- ---- the law
--- of the root of n smallest values: it is `count` of them, the format holds it, and any other value of the format lies beyond the root from it
+-- `root` is the root of `n` smallest values: it is `count` of them, the format holds it, and any other value of the format lies beyond the root from it
 pub record Correct (n : ℕ) (root : Float) : Type 0 where
   pub count : ℕ
   pub value : HasValue root false count (2 ^ 1074)

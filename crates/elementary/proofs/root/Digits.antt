@@ -5,12 +5,12 @@ use native.Mathlib.Nat.{le-trans, mul-le-mul-right, lt-of-not-le, add-comm, add-
 use native.Mathlib.Omega.{arith}
 use native.Mathlib.Decide.{decLe}
 use lib.Pow.{pow-pos}
-use Rattle.elementary.specs.Parts.{Near}
+use Rattle.elementary.specs.Inner.Parts.{Near}
 
 pub square-sum : (a b : ℕ) → (a + b) * (a + b) ≡ a * a + (a * b + a * b) + b * b
 square-sum a b = simp (mul-add, add-mul, mul-comm, add-assoc, add-comm, add-left-comm) refl
 
--- What the loop knows: r is the weight of the last digit found, q the digits, X what is to be rooted.
+-- what the loop knows: `r` is 2 ^ `c`, the weight of the last digit found, with `c` digits still to find; `q` is the root so far, and `x` the number whose root is taken
 pub record Found (x c r q rest : ℕ) : Type 0 where
   pub weight : r ≡ 2 ^ c
   pub sum : 2 * (q * q) + r * rest ≡ 2 * x
@@ -36,7 +36,7 @@ rest-lt x c r q rest f = lt-of-mul-lt-mul-left r (omega (arith, spread q r, squa
 times : (h q : ℕ) → h * (2 * q + h) ≡ 2 * (q * h) + h * h
 times h q = mul-add h (2 * q) h ∙ simp (mul-left-comm, mul-comm) refl
 
--- a turn whose digit is 1, with d what is left of the rest
+-- a turn whose digit is 1, with `d` for what is left of `rest`
 yes-sum : (x q h d rest : ℕ) → 2 * (q * q) + 2 * h * rest ≡ 2 * x → rest ≡ 2 * q + h + d → 2 * ((q + h) * (q + h)) + h * (d + d) ≡ 2 * x
 yes-sum x q h d rest e s =
     let k : h * rest ≡ h * (2 * q + h) + h * d = ap (λ (z : ℕ). h * z) s ∙ mul-add h (2 * q + h) d in
@@ -68,7 +68,7 @@ turn-no x c r q rest h f t =
       small = omega (arith, w .0, f .small);
     }
 
--- a turn as the program has it: d is rest - t with 64 bits, and its highest bit says whether t was above rest
+-- a turn as the code has it: `d` is `rest - t` in 64 bits, and its highest bit says whether `t` was above `rest`
 sign-yes : (d t rest : ℕ) → d < 2 ^ 64 → rest < 2 ^ 60 → (d + t) % 2 ^ 64 ≡ rest → t ≤ rest → (d ≡ rest - t) × (d / 2 ^ 63 ≡ 0)
 sign-yes d t rest l h e y = let k : d ≡ rest - t = omega arith in (k, omega arith)
 
@@ -107,7 +107,7 @@ sign-turn x c r q rest d rest' h f l ed er = go (decLe (2 * q + r / 2) rest)
         let w : q + (r / 2 - d / 2 ^ 63 * (r / 2)) ≡ q = ap (λ (k : ℕ). q + (r / 2 - k * (r / 2))) (s .1) ∙ omega arith in
         subst (λ (k : ℕ). Found x (c - 1) (r / 2) k (rest' + rest')) (sym w) (subst (λ (k : ℕ). Found x (c - 1) (r / 2) q (k + k)) (sym z) (turn-no x c r q rest h f y))
 
--- the last turn is over: r is 1
+-- after the last turn `r` is 1
 last : (x r q rest : ℕ) → Found x 0 r q rest → (2 * (q * q) + rest ≡ 2 * x) × (x < q * q + 2 * q + 1)
 last x r q rest f =
     let s : 2 * (q * q) + 1 * rest ≡ 2 * x = subst (λ (z : ℕ). 2 * (q * q) + z * rest ≡ 2 * x) (f .weight) (f .sum) in
@@ -121,6 +121,6 @@ near-down x r (suc q) rest p f l = let k = last x r (suc q) rest f in (omega (ar
 pub near-up : (x r q rest : ℕ) → Found x 0 r q rest → 2 * q < rest → Near x (q + 1)
 near-up x r q rest f l = let k = last x r q rest f in (omega (arith, k .0, square-sum q 1), omega (arith, k .1, square-sum q 1))
 
--- the start
+-- before the first turn
 pub found-first : (m : ℕ) → m < 2 ^ 54 → Found (m * 2 ^ 52) 53 0x20_0000_0000_0000 0 m
 found-first m h = record { weight = refl; sum = omega arith; above = omega arith; small = omega arith }

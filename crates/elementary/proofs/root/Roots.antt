@@ -13,7 +13,7 @@ use lib.Pow.{pow-pos, pow-mono, pow-add}
 use lib.Ieee.{Float, binary64, size, nearest, units}
 use lib.Ieee.Digits.{size-lt}
 use Rattle.elementary.specs.Root.{sq, rootFrom, wholeRoot, nearRoot}
-use Rattle.elementary.specs.Parts.{Near}
+use Rattle.elementary.specs.Inner.Parts.{Near}
 use Rattle.elementary.proofs.parts.Values.{size-is}
 use Rattle.elementary.proofs.root.Digits.{square-sum}
 

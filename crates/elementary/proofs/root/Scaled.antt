@@ -1,4 +1,4 @@
--- m * 2 ^ p is x * 4 ^ k, for an x of 105 or 106 digits that is m or twice m with 52 zeros: the arithmetic of `plain_at` and of `fast_at`. Assumes nothing.
+-- m * 2 ^ p is x * 4 ^ k, for an x of 105 or 106 digits that is m or twice m with 52 zeros: the arithmetic of `rooted`. Assumes nothing.
 use mathlib.Core.Path.{_≡_, sym, ap, _∙_}
 use mathlib.Core.Bool.{false}
 use Prim.Native.Nat.{ℕ, zero, suc, _+_, _-_, _*_, _/_, _%_, _^_, _≤_, _<_}
@@ -7,7 +7,7 @@ use native.Mathlib.Omega.{arith}
 use lib.Pow.{pow-add}
 use lib.Ieee.{binary64, units}
 use Rattle.elementary.specs.Root.{nearRoot}
-use Rattle.elementary.specs.Parts.{Near, Scaled}
+use Rattle.elementary.specs.Inner.Parts.{Near, Scaled}
 use Rattle.elementary.proofs.root.Roots.{near-root, near-bounds}
 
 doubled : (m o : ℕ) → o < 2 → (m * o ≤ m) × (m + m * o ≡ m * 2 ^ o)
@@ -15,7 +15,7 @@ doubled m zero h = (omega (arith, mul-zero m), omega (arith, mul-zero m))
 doubled m (suc zero) h = (omega arith, omega arith)
 doubled m (suc (suc o)) h = absurd (not-le-of-lt h (omega arith))
 
--- what the programs root: m, or twice m
+-- what `rooted` gives to `guessed`: `m`, or twice `m`
 abbrev pub taken : ℕ → ℕ → ℕ
 taken m p = m + m * ((p - 52) % 2)
 

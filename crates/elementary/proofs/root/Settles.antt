@@ -3,7 +3,7 @@ use mathlib.Core.Path.{_≡_, sym, ap, subst, _∙_}
 use Prim.Native.Nat.{ℕ, zero, suc, _+_, _-_, _*_, _/_, _%_, _^_, _≤_, _<_}
 use native.Mathlib.Nat.{mul-mul-mul-comm, mul-right-comm, mul-le-mul, mod-eq-of-lt}
 use native.Mathlib.Omega.{arith}
-use Rattle.elementary.specs.Parts.{Near}
+use Rattle.elementary.specs.Inner.Parts.{Near}
 use Rattle.elementary.proofs.root.Digits.{square-sum}
 
 -- the upper and the lower half of a guess

@@ -1,5 +1,4 @@
--- Floats of either sign as fractions: ±a is `gain s a` - `loss s a`, of which one is 0, so that the order of two signed fractions is an order of two sums of products, which `omega` reads.
--- `lt` and `le` are that order on the finite values. Assumes nothing.
+-- Floats of either sign as fractions: ±a is `gain s a` - `loss s a`, so that their order is one of two sums of products, which `omega` reads; `lt` and `le` are that order on the finite values. Assumes nothing.
 use mathlib.Core.Path.{_≡_, refl, sym}
 use mathlib.Core.Logic.{_⊎_, inl, inr}
 use Prim.Native.Nat.{ℕ, _+_, _*_, _≤_, _<_}

@@ -1,5 +1,4 @@
--- The order of IEEE 754 on all the values: `le` is reflexive on what is no NaN and transitive, `lt` goes through it, one of the two holds, never both, and `neg` turns the order round.
--- Assumes nothing.
+-- The order of IEEE 754: `le` is reflexive on what is no NaN and transitive, `lt` goes through it, one of the two holds, never both, and `neg` turns the order round. Assumes nothing.
 use mathlib.Core.Path.{_≡_, refl}
 use Prim.Native.Nat.{ℕ, _+_, _*_, _≤_, _<_}
 use native.Mathlib.Nat.{le-of-mul-le-mul-right, lt-of-not-le, mul-le-mul-right, mul-lt-mul-of-pos-right}

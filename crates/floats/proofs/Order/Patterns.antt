@@ -29,11 +29,11 @@ written p h n = (size n - p) * h + n / 2 ^ (size n - p)
 size-rises : {n m : ℕ} → n ≤ m → size n ≤ size m
 size-rises {n} {m} h = size-le n (size m) (lt-of-le-of-lt h (size-lt m))
 
--- with as many digits
+-- where `n` and `m` have the same number of digits
 level : (p h n m : ℕ) → n ≤ m → size n ≡ size m → written p h n ≤ written p h m
 level p h n m l e = let d : n / 2 ^ (size m - p) ≤ m / 2 ^ (size m - p) = shr-mono (size m - p) l in rw e (omega (arith, d))
 
--- with more digits than are kept
+-- where `m` has more digits than `n`, and more than are kept
 steeper : (p h n m : ℕ) → 2 ^ p ≡ 2 * h → 1 ≤ p → size n < size m → p < size m → written p h n ≤ written p h m
 steeper p h n m e o s l =
     let k = size n - p in

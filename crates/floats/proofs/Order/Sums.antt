@@ -1,5 +1,4 @@
--- A sum grows with both its values, and a difference with the first and as the second shrinks, on all the values: zeros, infinities and overflow included; and where a sum is no NaN.
--- Assumes nothing.
+-- A sum grows with both its values, and a difference with the first and as the second shrinks: zeros, infinities and overflow included; and where a sum is no NaN. Assumes nothing.
 use mathlib.Core.Path.{_≡_, refl, ap}
 use Prim.Native.Nat.{ℕ, _+_, _-_, _*_, _≤_, _<_}
 use native.Mathlib.Nat.{add-mul, mul-le-mul-right, mul-pos}

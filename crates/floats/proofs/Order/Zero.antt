@@ -1,5 +1,4 @@
--- How a value compares with +0, and what the comparisons say of it: above zero it is `positive` or the infinity, equal to zero it is a zero of either sign, and otherwise it is NaN or
--- negative. Assumes nothing.
+-- How a value compares with +0: above it is `positive` or the infinity, equal to it is a zero of either sign, and anything else is NaN or negative. Assumes nothing.
 use mathlib.Core.Path.{_≡_, refl, sym, _∙_}
 use mathlib.Core.Bool.{Bool, true, false, not, true≢false, false≢true}
 use mathlib.Core.Logic.{_⊎_, inl, inr}
@@ -24,7 +23,7 @@ no-size u = mul-one (0 * u) ∙ zero-mul u
 some-size : (m : ℕ) (e : ℤ) → 0 < suc m * up e * 1
 some-size m e = rw (mul-one (suc m * up e)) (mul-pos (zero-lt-suc m) (up-pos e))
 
--- tests of two sizes, from what is known of them
+-- tests of the sizes `a` and `b`, from which of them are 0
 under-nothing : (a b : ℕ) → b ≡ 0 → ltb a b ≡ false
 under-nothing a b e = le-ltb a b (omega arith)
 

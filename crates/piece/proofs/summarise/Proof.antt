@@ -1,4 +1,4 @@
-use Prim.Native.Nat.{_-_}
+-- `piece::summarise` meets its contract: by the segment and its cost. Assumes nothing.
 use borrow.Author.Needs.{needs}
 use Rattle.piece.proofs.summarise.Statement.{statement}
 use Rattle.piece.proofs.summarise.Tie as tie

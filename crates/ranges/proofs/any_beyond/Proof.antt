@@ -1,4 +1,4 @@
--- `ranges::any_beyond` meets its contract. Where none was counted, none is beyond. Assumes nothing.
+-- `ranges::any_beyond` meets its contract: where no reading was counted, none is beyond. Assumes nothing.
 use mathlib.Core.Path.{_≡_, sym, _∙_, subst}
 use Prim.Native.Nat.{ℕ, _≤_, _-_, _+_}
 use native.Mathlib.Omega.{arith}
@@ -7,7 +7,7 @@ use borrow.Author.Needs.{needs}
 use denote.Ref.{now}
 use borrow.Author.Tests.{ltb-false}
 use Rattle.ranges.proofs.RangeLaws.{within-none, within-more}
-use Rattle.ranges.specs.Blocks.{Within}
+use Rattle.ranges.specs.Inner.Blocks.{Within}
 use Rattle.ranges.proofs.any_beyond.Statement.{statement}
 use Rattle.ranges.proofs.any_beyond.Tie as tie
 

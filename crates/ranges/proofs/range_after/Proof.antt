@@ -1,4 +1,4 @@
--- `ranges::range_after` meets its contract. Assumes nothing.
+-- `ranges::range_after` meets its contract: readings within the range change nothing. Assumes nothing.
 use borrow.Author.Needs.{needs}
 use Rattle.ranges.proofs.RangeLaws.{taken-on}
 use Rattle.ranges.proofs.range_after.Statement.{statement}

@@ -7,7 +7,7 @@ use lib.ListN.{length}
 use borrow.Author.Needs.{needs}
 use lib.Ieee.{nanBits, ofBits}
 use Rattle.ranges.proofs.RangeLaws.{taken-all}
-use Rattle.ranges.specs.Blocks.{Taken}
+use Rattle.ranges.specs.Inner.Blocks.{Taken}
 use Rattle.ranges.specs.Ranges.{lowestTo, highestTo}
 use Rattle.ranges.proofs.range_of.Statement.{statement}
 use Rattle.ranges.proofs.range_of.Tie as tie

@@ -1,4 +1,4 @@
--- `ranges::taken_in` meets its contract. The loop's invariant: the readings up to i are taken in. Assumes nothing.
+-- `ranges::taken_in` meets its contract. The loop's invariant: the readings below the index `i` are taken in. Assumes nothing.
 use mathlib.Core.Path.{_≡_, ap, _∙_}
 use Prim.Native.Nat.{_≤_, _-_}
 use native.Mathlib.Omega.{arith}

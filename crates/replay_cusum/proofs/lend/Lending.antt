@@ -5,13 +5,13 @@ use mir.Val.{Val}
 use denote.Shadow.{shadow}
 use denote.Array.{each}
 use Rattle.charts.specs.Answers.{admittedAs}
-use Rattle.charts.specs.declared.Charted.{Charted}
+use Rattle.refusals.specs.declared.Answer.{Answer}
 use Rattle.cusum.specs.Chart.{accepted}
 use Rattle.cusum.specs.declared.Cusum.{Cusum}
 use Rattle.cusum.specs.declared.CusumResult.{CusumResult}
 use Rattle.cusum.proofs.CusumResult as R
 
-abbrev pub judgeOf : Cusum → ℕ → ℕ → Charted
+abbrev pub judgeOf : Cusum → ℕ → ℕ → Answer
 judgeOf c n room = admittedAs (accepted c) n room
 
 -- what an array of records owns it owns as a field too, where its records stand as tuples

@@ -1,4 +1,4 @@
--- `replay_cuts::first_unlike` is safe and ends: it reads each place once. Assumes nothing.
+-- `replay_cuts::first_unlike` is safe and ends: it reads each byte once. Assumes nothing.
 use Prim.Native.Nat.{_≤_, _-_}
 use native.Mathlib.Omega.{arith}
 use Rattle.replay_cuts.proofs.first_unlike.Statement.{statement}

@@ -5,13 +5,13 @@ use mir.Val.{Val}
 use denote.Shadow.{shadow}
 use denote.Array.{each}
 use Rattle.charts.specs.Answers.{admittedAs}
-use Rattle.charts.specs.declared.Charted.{Charted}
+use Rattle.refusals.specs.declared.Answer.{Answer}
 use Rattle.ewma.specs.Chart.{accepted}
 use Rattle.ewma.specs.declared.Ewma.{Ewma}
 use Rattle.ewma.specs.declared.EwmaResult.{EwmaResult}
 use Rattle.ewma.proofs.EwmaResult as R
 
-abbrev pub judgeOf : Ewma → ℕ → ℕ → Charted
+abbrev pub judgeOf : Ewma → ℕ → ℕ → Answer
 judgeOf c n room = admittedAs (accepted c) n room
 
 -- what an array of records owns it owns as a field too, where its records stand as tuples

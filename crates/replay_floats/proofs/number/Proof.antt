@@ -1,4 +1,4 @@
--- `replay_floats::number` is safe and ends: it reads the 8 bytes from `start` on, and the last is within the 25. Assumes nothing.
+-- `replay_floats::number` is safe and ends: the last of the 8 bytes that it reads is within the 25. Assumes nothing.
 use Prim.Native.Nat.{_≤_, _-_}
 use native.Mathlib.Omega.{arith}
 use Rattle.replay_floats.proofs.number.Statement.{statement}

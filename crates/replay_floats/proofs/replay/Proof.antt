@@ -1,8 +1,7 @@
--- `replay_floats::replay` is safe and ends: no count is above the number of cases read, which the loop's test keeps below the largest number.
--- Assumes nothing.
+-- `replay_floats::replay` is safe and ends: no count is above the number of cases read, which the loop's test keeps below the largest number. Assumes nothing.
 use Prim.Native.Nat.{_-_, _^_}
 use borrow.Author.Needs.{needs}
-use Rattle.replay_floats.specs.Room.{Room}
+use Rattle.replay_floats.specs.Inner.Room.{Room}
 use Rattle.replay_floats.proofs.replay.Statement.{statement}
 use Rattle.replay_floats.proofs.replay.Tie as tie
 

@@ -9,7 +9,7 @@ use borrow.Author.Needs.{needs}
 use Rattle.replay_pelt.proofs.replay_all.Statement.{statement}
 use Rattle.replay_pelt.proofs.replay_all.Tie as tie
 
--- a list keeps its length where another takes the place of its front
+-- `xs` keeps its length `m` where `ys` stands for its first `n`
 stays : {A : Type 0} (m n : ℕ) (xs ys : List A) → length xs ≡ m → n ≤ m → length ys ≡ length (take n xs) → length (ys ++ drop n xs) ≡ m
 stays m n xs ys l h e =
     let fits : n ≤ length xs = omega (arith, l, h) in

@@ -1,3 +1,4 @@
+-- `areas::clear::clear_indices` meets its contract. The loop's invariant: the part is cleared up to the index `i`. Assumes nothing.
 use mathlib.Core.Path.{_≡_, refl, _∙_}
 use Prim.Native.Nat.{_≤_, _<_, _-_}
 use native.Mathlib.Omega.{arith}
@@ -23,7 +24,7 @@ stop-requires c κs = search needs
 loop-holds : tie.Need-loop-holds Inv-loop μ-loop
 loop-holds c = let a = c .before .before .args in (omega arith, rw (c .stop .ensures) (stop-from _ _ _), c .stop .ensures, refl, cleared-at 0 (now (a .area)) (a .place))
 
--- the place that is written stands in the area
+-- the index that is written is within the area
 within : (c : tie.In-loop Inv-loop μ-loop) → c .before .loop .i < length (c .before .loop .area)
 within c =
     let l = c .before .loop in

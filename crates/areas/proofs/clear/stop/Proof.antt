@@ -1,4 +1,4 @@
-use Prim.Native.Nat.{_-_}
+-- `areas::clear::stop` meets its contract: each answer by the tests that led to it. Assumes nothing.
 use borrow.Author.Needs.{needs}
 use Rattle.areas.proofs.clear.stop.Statement.{statement}
 use Rattle.areas.proofs.clear.stop.Tie as tie

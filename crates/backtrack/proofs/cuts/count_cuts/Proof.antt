@@ -1,3 +1,4 @@
+-- `backtrack::cuts::count_cuts` meets its contract. The loop's invariant: `count` and the cuts left from `t` are all the cuts. Assumes nothing.
 use mathlib.Core.Path.{_≡_, ap}
 use Prim.Native.Nat.{_+_}
 use native.Mathlib.Omega.{arith}
@@ -24,7 +25,7 @@ predecessor-requires c κs = search needs
 loop-holds : tie.Need-loop-holds Inv-loop μ-loop
 loop-holds c = let e = ap length (left-all (now (c .before .before .args .indices)) (c .before .before .args .n) _ (c .predecessor .ensures)) in omega arith
 
--- in the loop one cut more is left than after it
+-- within a turn one cut more is left than after it
 one-more : (c : tie.In-loop Inv-loop μ-loop)
     → length (leftFrom (now (c .before .before .before .before .args .indices)) (c .before .loop .t)) ≡ length (leftFrom (now (c .before .before .before .before .args .indices)) (predecessorOf (now (c .before .before .before .before .args .indices)) (c .before .loop .t))) + 1
 one-more c = left-turn-length (now (c .before .before .before .before .args .indices)) (c .before .loop .t) (omega arith)

@@ -1,3 +1,4 @@
+-- `backtrack::cuts::fill_cuts` meets its contract. The loop's invariant: `left` cuts are left from `cut` on, and with them written the area is as promised. Assumes nothing.
 use mathlib.Core.Path.{_≡_, refl, sym, ap, _∙_}
 use mathlib.Core.List.{List}
 use Prim.Native.Nat.{ℕ, _+_}
@@ -31,7 +32,7 @@ loop-holds c =
     let e = left-all (now (a .indices)) (a .n) _ (c .predecessor .ensures) in
     (c .before .before .before .pre ∙ ap length e, refl, ap (λ (cs : List ℕ). written cs (now (a .cuts))) (sym e))
 
--- in the loop one cut more is left than after it
+-- within a turn one cut more is left than after it
 one-more : (c : tie.In-loop Inv-loop μ-loop) → c .before .loop .left ≡ length (leftFrom (now (c .before .before .before .before .before .args .indices)) (predecessorOf (now (c .before .before .before .before .before .args .indices)) (c .before .loop .cut))) + 1
 one-more c = c .before .loop .inv .0 ∙ left-turn-length (now (c .before .before .before .before .before .args .indices)) (c .before .loop .cut) (omega arith)
 

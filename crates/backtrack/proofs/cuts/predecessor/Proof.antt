@@ -1,3 +1,4 @@
+-- `backtrack::cuts::predecessor` meets its contract. Assumes nothing.
 use mathlib.Core.Path.{refl}
 use native.Mathlib.Omega.{arith}
 use borrow.Author.Needs.{needs}

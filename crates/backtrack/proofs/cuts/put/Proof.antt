@@ -1,3 +1,4 @@
+-- `backtrack::cuts::put` meets its contract: past the area's end nothing is set. Assumes nothing.
 use mathlib.Core.Path.{sym}
 use borrow.Author.Needs.{needs}
 use Rattle.backtrack.proofs.cuts.put.Statement.{statement}

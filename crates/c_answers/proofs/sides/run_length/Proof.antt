@@ -1,7 +1,7 @@
 -- `c_answers::sides::run_length` meets its contract. Assumes nothing.
 use mathlib.Core.Path.{_∙_, ap}
 use borrow.Author.Tests.{lt-ltb, le-ltb}
-use Rattle.refusals.specs.Said.{tried}
+use Rattle.refusals.specs.Tried.{tried}
 use Rattle.c_answers.specs.Told.{countedOf, runLengthOf}
 use Rattle.c_answers.proofs.sides.run_length.Statement.{statement}
 use Rattle.c_answers.proofs.sides.run_length.Tie as tie

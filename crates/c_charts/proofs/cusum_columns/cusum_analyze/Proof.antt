@@ -1,17 +1,19 @@
--- `c_charts::cusum_columns::cusum_analyze` meets its contract: after i readings each array has its field of the first i records. Assumes nothing.
+-- `c_charts::cusum_columns::cusum_analyze` meets its contract: after `i` readings each array has its field of the first `i` records. Assumes nothing.
 use mathlib.Core.Path.{_≡_, refl, ap, _∙_}
 use Prim.Native.Nat.{_≤_, _<_, _-_}
 use native.Mathlib.Omega.{arith}
 use lib.ListN.{length}
 use denote.Ref.{now}
-use Rattle.charts.specs.Answers.{admittedAs, charted, countOf}
-use Rattle.charts.specs.declared.Charted.{Charted}
-use Rattle.charts.proofs.Answers.{admitted-says, few-records}
+use Rattle.refusals.specs.Tried.{countOf}
+use Rattle.refusals.specs.Said.{said}
+use Rattle.refusals.specs.declared.Answer.{Answer}
+use Rattle.charts.specs.Answers.{admittedAs}
+use Rattle.charts.proofs.Answers.{few-records}
 use Rattle.charts.proofs.Columns.{Going, not-gone}
 use Rattle.cusum.specs.Chart.{accepted, shownOf, startState, nextState}
 use Rattle.c_answers.specs.Told.{countedOf}
-use Rattle.c_charts.specs.CusumColumns.{Filled, roomOf}
-use Rattle.c_charts.proofs.CusumLaws.{Room, written-room, upper-length, lower-length, signal-length, index-length, all-done, one-more}
+use Rattle.c_charts.specs.CusumColumns.{roomOf}
+use Rattle.c_charts.proofs.CusumLaws.{Filled, Room, arrays-are, written-room, upper-length, lower-length, signal-length, index-length, all-done, one-more}
 use Rattle.c_charts.proofs.cusum_columns.cusum_analyze.Statement.{statement}
 use Rattle.c_charts.proofs.cusum_columns.cusum_analyze.Tie as tie
 
@@ -40,7 +42,7 @@ loop-holds c = (rw (c .start .ensures) (not-gone shownOf startState nextState _ 
 following-requires : tie.Need-following-requires Inv-loop μ-loop
 following-requires c κs = tt
 
--- the answer, and that so many records have room
+-- the answer, and that its records have room
 answered : (c : tie.At-loop Inv-loop μ-loop) → let a = c .before .before .before .before .before .before .before .before .before .before .args in c .before .before .before .judge .result ≡ admittedAs (accepted (a .chart)) (length (now (a .«data»))) (roomOf (now (a .s-upper)) (now (a .s-lower)) (now (a .signal)) (now (a .index)))
 answered c = c .before .before .before .judge .ensures ∙ rw (c .before .before .before .before .shortest .ensures) refl
 
@@ -110,8 +112,8 @@ loop-less c = omega (arith, c .before .before .before .before .loop-test .taken)
 loop-again : tie.Need-loop-again Inv-loop μ-loop
 loop-again c = rw (c .flag .ensures) (one-more (fits (c .before .before .before .before .before) .1) (c .before .before .before .before .before .loop .inv .0) (c .before .before .before .before .before .loop .inv .1) (fits (c .before .before .before .before .before) .0) (c .before .before .before .before .loop-test .taken) _ (c .before .before .before .following .ensures))
 
-records-requires : tie.Need-records-requires Inv-loop μ-loop
-records-requires c κs = tt
+answered-requires : tie.Need-answered-requires Inv-loop μ-loop
+answered-requires c κs = tt
 
 same-length : tie.Need-same-length Inv-loop μ-loop
 same-length c = upper-length (fits (c .before .before) .1) (c .before .before .loop .inv .0) (c .before .before .loop .inv .1)
@@ -127,12 +129,10 @@ same-length-4 c = index-length (fits (c .before .before) .1) (c .before .before 
 
 returns : tie.Need-returns Inv-loop μ-loop
 returns c =
-    record {
-      told = c .records .ensures ∙ ap (λ (r : Charted). countedOf (charted r)) (answered (c .before .before)) ∙ ap countedOf (admitted-says _ _ _);
-      filled = rw (counted (c .before .before)) at (all-done (fits (c .before .before) .1) (c .before .before .loop .inv .0) (c .before .before .loop .inv .1) (c .before .loop-test .left));
-    }
+    arrays-are _ (c .answered .ensures ∙ ap (λ (r : Answer). countedOf (said r)) (answered (c .before .before)))
+    (rw (counted (c .before .before)) at (all-done (fits (c .before .before) .1) (c .before .before .loop .inv .0) (c .before .before .loop .inv .1) (c .before .loop-test .left)))
 
 pub cusum-analyze-spec : {M : Type 1} → statement M
 cusum-analyze-spec =
     tie.close
-    (tie.spec Inv-loop μ-loop shortest-requires judge-requires count-requires start-requires loop-holds following-requires mul-s-upper slice-write-s-upper mul-s-lower slice-write-s-lower flag-requires slice-write-signal mul-index slice-write-index add-i loop-less loop-again records-requires same-length same-length-2 same-length-3 same-length-4 returns)
+    (tie.spec Inv-loop μ-loop shortest-requires judge-requires count-requires start-requires loop-holds following-requires mul-s-upper slice-write-s-upper mul-s-lower slice-write-s-lower flag-requires slice-write-signal mul-index slice-write-index add-i loop-less loop-again answered-requires same-length same-length-2 same-length-3 same-length-4 returns)

@@ -1,20 +1,22 @@
--- `c_charts::ewma_columns::ewma_analyze` meets its contract: after i readings each array has its field of the first i records. Assumes nothing.
+-- `c_charts::ewma_columns::ewma_analyze` meets its contract: after `i` readings each array has its field of the first `i` records. Assumes nothing.
 use mathlib.Core.Path.{_≡_, refl, ap, _∙_}
 use Prim.Native.Nat.{_≤_, _<_, _-_}
 use native.Mathlib.Omega.{arith}
 use lib.ListN.{length}
 use denote.Ref.{now}
-use Rattle.charts.specs.Answers.{admittedAs, charted, countOf}
-use Rattle.charts.specs.declared.Charted.{Charted}
-use Rattle.charts.proofs.Answers.{admitted-says, few-records}
+use Rattle.refusals.specs.Tried.{countOf}
+use Rattle.refusals.specs.Said.{said}
+use Rattle.refusals.specs.declared.Answer.{Answer}
+use Rattle.charts.specs.Answers.{admittedAs}
+use Rattle.charts.proofs.Answers.{few-records}
 use Rattle.charts.specs.Runs.{following}
 use Rattle.charts.proofs.Columns.{Going, not-gone}
 use Rattle.ewma.specs.Chart.{accepted, fresh, itself, nextRecord}
 use Rattle.ewma.specs.Settled.{settledOf}
 use Rattle.ewma.proofs.AtRest.{following-settles}
 use Rattle.c_answers.specs.Told.{countedOf}
-use Rattle.c_charts.specs.EwmaColumns.{Filled, roomOf}
-use Rattle.c_charts.proofs.EwmaLaws.{Room, written-room, ewma-length, ucl-length, lcl-length, signal-length, index-length, all-done, one-more}
+use Rattle.c_charts.specs.EwmaColumns.{roomOf}
+use Rattle.c_charts.proofs.EwmaLaws.{Filled, Room, arrays-are, written-room, ewma-length, ucl-length, lcl-length, signal-length, index-length, all-done, one-more}
 use Rattle.c_charts.proofs.ewma_columns.ewma_analyze.Statement.{statement}
 use Rattle.c_charts.proofs.ewma_columns.ewma_analyze.Tie as tie
 
@@ -46,7 +48,7 @@ loop-holds c = rw (c .start .ensures) (not-gone itself fresh nextRecord _ _ _, r
 following-requires : tie.Need-following-requires Inv-loop μ-loop
 following-requires c κs = tt
 
--- the answer, and that so many records have room
+-- the answer, and that its records have room
 answered : (c : tie.At-loop Inv-loop μ-loop) → let a = c .before .before .before .before .before .before .before .before .before .before .before .before .args in c .before .before .before .judge .result ≡ admittedAs (accepted (a .chart)) (length (now (a .«data»))) (roomOf (now (a .ewma)) (now (a .ucl)) (now (a .lcl)) (now (a .signal)) (now (a .index)))
 answered c = c .before .before .before .judge .ensures ∙ rw (c .before .before .before .before .shortest .ensures, c .before .before .before .before .before .shorter .ensures) refl
 
@@ -139,8 +141,8 @@ loop-again c =
     let done = one-more (fits at .1) (at .loop .inv .0) (at .loop .inv .1) (fits at .0) (c .before .before .before .before .loop-test .taken) _ (m .0) in
     rw (c .flag .ensures) (done .0, done .1, m .1)
 
-records-requires : tie.Need-records-requires Inv-loop μ-loop
-records-requires c κs = tt
+answered-requires : tie.Need-answered-requires Inv-loop μ-loop
+answered-requires c κs = tt
 
 same-length : tie.Need-same-length Inv-loop μ-loop
 same-length c = ewma-length (fits (c .before .before) .1) (c .before .before .loop .inv .0) (c .before .before .loop .inv .1)
@@ -159,12 +161,10 @@ same-length-5 c = index-length (fits (c .before .before) .1) (c .before .before 
 
 returns : tie.Need-returns Inv-loop μ-loop
 returns c =
-    record {
-      told = c .records .ensures ∙ ap (λ (r : Charted). countedOf (charted r)) (answered (c .before .before)) ∙ ap countedOf (admitted-says _ _ _);
-      filled = rw (counted (c .before .before)) at (all-done (fits (c .before .before) .1) (c .before .before .loop .inv .0) (c .before .before .loop .inv .1) (c .before .loop-test .left));
-    }
+    arrays-are _ (c .answered .ensures ∙ ap (λ (r : Answer). countedOf (said r)) (answered (c .before .before)))
+    (rw (counted (c .before .before)) at (all-done (fits (c .before .before) .1) (c .before .before .loop .inv .0) (c .before .before .loop .inv .1) (c .before .loop-test .left)))
 
 pub ewma-analyze-spec : {M : Type 1} → statement M
 ewma-analyze-spec =
     tie.close
-    (tie.spec Inv-loop μ-loop shorter-requires shortest-requires judge-requires count-requires start-requires loop-holds following-requires mul-ewma slice-write-ewma mul-ucl slice-write-ucl mul-lcl slice-write-lcl flag-requires slice-write-signal mul-index slice-write-index add-i loop-less loop-again records-requires same-length same-length-2 same-length-3 same-length-4 same-length-5 returns)
+    (tie.spec Inv-loop μ-loop shorter-requires shortest-requires judge-requires count-requires start-requires loop-holds following-requires mul-ewma slice-write-ewma mul-ucl slice-write-ucl mul-lcl slice-write-lcl flag-requires slice-write-signal mul-index slice-write-index add-i loop-less loop-again answered-requires same-length same-length-2 same-length-3 same-length-4 same-length-5 returns)

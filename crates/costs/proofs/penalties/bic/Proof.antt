@@ -1,5 +1,5 @@
+-- `costs::penalties::bic` meets its contract, by the cost function. Assumes nothing.
 use mathlib.Core.Path.{refl}
-use Prim.Native.Nat.{_-_}
 use borrow.Author.Needs.{needs}
 use Rattle.costs.proofs.penalties.bic.Statement.{statement}
 use Rattle.costs.proofs.penalties.bic.Tie as tie

@@ -1,5 +1,5 @@
+-- `costs::penalties::resolve_penalty` meets its contract, by the penalty. Assumes nothing.
 use mathlib.Core.Path.{refl}
-use Prim.Native.Nat.{_-_}
 use borrow.Author.Needs.{needs}
 use Rattle.costs.proofs.penalties.resolve_penalty.Statement.{statement}
 use Rattle.costs.proofs.penalties.resolve_penalty.Tie as tie

@@ -1,5 +1,5 @@
+-- `costs::segments::l2_cost` meets its contract. Assumes nothing.
 use mathlib.Core.Path.{refl}
-use Prim.Native.Nat.{_-_}
 use Rattle.costs.proofs.segments.l2_cost.Statement.{statement}
 use Rattle.costs.proofs.segments.l2_cost.Tie as tie
 use Rattle.costs.proofs.segments.l2_cost.Reads as reads

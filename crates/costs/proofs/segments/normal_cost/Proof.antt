@@ -1,4 +1,4 @@
-use Prim.Native.Nat.{_-_}
+-- `costs::segments::normal_cost` meets its contract, by the variance. Assumes nothing.
 use borrow.Author.Needs.{needs}
 use Rattle.costs.proofs.segments.normal_cost.Statement.{statement}
 use Rattle.costs.proofs.segments.normal_cost.Tie as tie

@@ -1,4 +1,4 @@
-use Prim.Native.Nat.{_-_}
+-- `costs::segments::segment_cost` meets its contract, by the cost function. Assumes nothing.
 use borrow.Author.Needs.{needs}
 use Rattle.costs.proofs.segments.segment_cost.Statement.{statement}
 use Rattle.costs.proofs.segments.segment_cost.Tie as tie

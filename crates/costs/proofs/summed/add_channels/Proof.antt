@@ -1,3 +1,4 @@
+-- `costs::summed::add_channels` meets its contract. The loop's invariant: `sum` is that of the first `c` channels' costs, and `place` is where the next one's sums stand. Assumes nothing.
 use mathlib.Core.Path.{_≡_, refl, sym, ap, _∙_}
 use Prim.Native.Nat.{_≤_, _*_, _-_, _+_}
 use native.Mathlib.Omega.{arith}

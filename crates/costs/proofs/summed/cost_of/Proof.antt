@@ -1,5 +1,5 @@
+-- `costs::summed::cost_of` meets its contract, whether the segment fits or not. Assumes nothing.
 use mathlib.Core.Path.{sym, _∙_}
-use Prim.Native.Nat.{_-_}
 use borrow.Author.Needs.{needs}
 use Rattle.costs.proofs.summed.cost_of.Statement.{statement}
 use Rattle.costs.proofs.summed.cost_of.Tie as tie

@@ -1,5 +1,5 @@
+-- `costs::summed::segment_at` meets its contract: it reads within the area. Assumes nothing.
 use mathlib.Core.Path.{refl}
-use Prim.Native.Nat.{_-_}
 use borrow.Author.Needs.{needs}
 use Rattle.costs.proofs.summed.segment_at.Statement.{statement}
 use Rattle.costs.proofs.summed.segment_at.Tie as tie

@@ -1,4 +1,4 @@
-use Prim.Native.Nat.{_-_}
+-- `costs::summed::segment_fits` meets its contract: no product wraps. Assumes nothing.
 use native.Mathlib.Omega.{arith}
 use borrow.Author.Needs.{needs}
 use Rattle.costs.proofs.summed.segment_fits.Statement.{statement}

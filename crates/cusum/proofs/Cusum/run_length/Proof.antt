@@ -3,7 +3,7 @@ use mathlib.Core.Path.{_≡_, sym, _∙_}
 use mathlib.Core.Bool.{true, false}
 use borrow.Author.Needs.{needs}
 use Rattle.floats.specs.Finite.{finite}
-use Rattle.refusals.specs.Said.{tried}
+use Rattle.refusals.specs.Tried.{tried}
 use Rattle.cusum.specs.Chart.{accepted}
 use Rattle.cusum.specs.RunLength.{runLength}
 use Rattle.cusum.proofs.Cusum.run_length.Statement.{statement}

@@ -1,3 +1,4 @@
+-- `cuts_answer::printing::print_answer` meets its contract: by what the input asks for. Assumes nothing.
 use mathlib.Core.Path.{sym, ap, subst, _∙_}
 use native.Mathlib.Omega.{arith}
 use borrow.Author.Needs.{needs}

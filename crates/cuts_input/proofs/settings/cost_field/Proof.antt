@@ -1,3 +1,4 @@
+-- `cuts_input::settings::cost_field` meets its contract: each answer by the field and its byte. Assumes nothing.
 use native.Mathlib.Omega.{arith}
 use borrow.Author.Needs.{needs}
 use Rattle.cuts_input.proofs.FormLaws.{field-inside, field-wrong, field-none, field-means, cost-l2, cost-normal, cost-other, cost-long}

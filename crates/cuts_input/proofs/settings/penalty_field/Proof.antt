@@ -1,3 +1,4 @@
+-- `cuts_input::settings::penalty_field` meets its contract: each answer by the field and its size. Assumes nothing.
 use native.Mathlib.Omega.{arith}
 use borrow.Author.Needs.{needs}
 use Rattle.cuts_input.proofs.FormLaws.{field-inside, field-wrong, field-none, field-means, penalty-bic, penalty-custom, penalty-other}

@@ -1,7 +1,8 @@
+-- `cuts_input::settings::read_settings` meets its contract: each answer by the fields that were read. Assumes nothing.
 use mathlib.Core.Path.{ap}
 use native.Mathlib.Omega.{arith}
 use borrow.Author.Needs.{needs}
-use Rattle.cuts_input.specs.Held.{costRead, penaltyRead}
+use Rattle.cuts_input.specs.Inner.Held.{costRead, penaltyRead}
 use Rattle.cuts_input.proofs.RequestLaws.{read-place, settings-first, settings-second, settings-third, settings-all}
 use Rattle.cuts_input.proofs.settings.read_settings.Statement.{statement}
 use Rattle.cuts_input.proofs.settings.read_settings.Tie as tie

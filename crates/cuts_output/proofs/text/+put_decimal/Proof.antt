@@ -1,3 +1,4 @@
+-- `cuts_output::text::put_decimal` meets its contract: it calls itself with a tenth of `n`, which is less than `n`. Assumes nothing.
 use mathlib.Core.Path.{sym, ap, _∙_}
 use Prim.Native.Nat.{ℕ, _<_}
 use native.Mathlib.Omega.{arith}

@@ -1,3 +1,4 @@
+-- `cuts_output::text::print_cuts` meets its contract: nothing without room, and else the text part after part. Assumes nothing.
 use mathlib.Core.Path.{refl, _∙_}
 use Prim.Native.Nat.{_+_, _*_, _^_, _≤_, _<_}
 use native.Mathlib.Omega.{arith}

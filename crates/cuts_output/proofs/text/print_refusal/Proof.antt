@@ -1,3 +1,4 @@
+-- `cuts_output::text::print_refusal` meets its contract: nothing without room, and else the text part after part. Assumes nothing.
 use mathlib.Core.Path.{refl, ap, _∙_}
 use mathlib.Core.List.{[], _∷_, _++_}
 use Prim.Native.Nat.{ℕ}

@@ -1,3 +1,4 @@
+-- `cuts_output::text::put_line` meets its contract: the number, then the line's end. Assumes nothing.
 use mathlib.Core.Path.{_∙_}
 use native.Mathlib.Omega.{arith}
 use Rattle.cuts_output.proofs.LineLaws.{lines-one, decimal-fits, decimal-short, written-then, written-as}

@@ -1,3 +1,4 @@
+-- `cuts_output::text::put_lines` meets its contract. The loop's invariant: the lines of the first numbers are written. Assumes nothing.
 use mathlib.Core.Path.{_≡_, sym, ap}
 use Prim.Native.Nat.{_≤_, _*_, _-_, _+_}
 use native.Mathlib.Omega.{arith}

@@ -1,3 +1,4 @@
+-- `cuts_output::text::put_spaced` meets its contract: the space, then the number. Assumes nothing.
 use mathlib.Core.Path.{_∙_}
 use native.Mathlib.Omega.{arith}
 use Rattle.cuts_output.proofs.LineLaws.{spaced-one, decimal-fits, written-then, written-as}

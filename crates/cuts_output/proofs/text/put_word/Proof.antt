@@ -1,3 +1,4 @@
+-- `cuts_output::text::put_word` meets its contract. The loop's invariant: the first `i` bytes are written. Assumes nothing.
 use mathlib.Core.Path.{_≡_, refl}
 use Prim.Native.Nat.{_≤_, _-_, _+_}
 use native.Mathlib.Omega.{arith}

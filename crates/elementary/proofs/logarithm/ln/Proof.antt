@@ -12,7 +12,7 @@ use Rattle.elementary.proofs.logarithm.Scaling.{ln-of-value, ln-of-part
 use Rattle.elementary.proofs.logarithm.ln.Statement.{statement}
 use Rattle.elementary.proofs.logarithm.ln.Tie as tie
 
--- what owning an `f64` tells: the format holds it
+-- an argument of type `f64` is a value that the format holds
 held : (c : tie.Start) → T (fits binary64 (c .args .x))
 held c = subst T (sym (c .good .0 .1)) tt
 

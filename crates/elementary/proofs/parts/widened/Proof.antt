@@ -1,4 +1,4 @@
--- `elementary::parts::widened` meets its contract. The loop's invariant: m is t doubled j times, and has at most 53 digits. Assumes nothing.
+-- `elementary::parts::widened` meets its contract. The loop's invariant: `significand` is `count` doubled `doublings` times, and has at most 53 digits. Assumes nothing.
 use mathlib.Core.Path.{_≡_, sym}
 use Prim.Native.Nat.{_-_, _*_, _^_, _≤_, _<_}
 use native.Mathlib.Nat.{mul-one}

@@ -1,4 +1,4 @@
--- `elementary::power::powi` meets its contract. The loop's invariant: what is left to do from here gives the whole power. The measure is what is left of n. Assumes nothing.
+-- `elementary::power::powi` meets its contract. The loop's invariant: `powFrom` of what is left of `n` gives the whole power. The measure is what is left of `n`. Assumes nothing.
 use mathlib.Core.Path.{_≡_, refl, sym, _∙_}
 use Prim.Native.Nat.{ℕ, _<_, _/_, _%_}
 use native.Mathlib.Omega.{arith}
@@ -16,7 +16,7 @@ Inv-loop x n result₀ base₀ rest₀ result base rest = powFrom rest rest base
 abbrev μ-loop : tie.MeasureT-loop
 μ-loop x n result₀ base₀ rest₀ result base rest = rest
 
--- a turn, by its bit
+-- one turn, for the lowest bit `bit` of `n`
 turn : (n : ℕ) (b r v : Float) (bit : ℕ) → 0 < n → n % 2 ≡ bit → powFrom n n b r ≡ v → powFrom (n / 2) (n / 2) (b *ᶠ b) (timesIf bit r b) ≡ v
 turn n b r v bit h e q = rw (← e) (sym (one-turn n b r h) ∙ q)
 

@@ -1,4 +1,4 @@
--- `elementary::root::root_by_digits` meets its contract. The loop's invariant is `Found` of `proofs/Squares.antt`, and its measure the count of the digits left. Assumes nothing.
+-- `elementary::root::root_by_digits` meets its contract. The loop's invariant is `Found` of `proofs/root/Digits`, and its measure the count of the digits left. Assumes nothing.
 use mathlib.Core.Path.{subst}
 use Prim.Native.Nat.{ℕ, _+_, _-_, _*_, _/_, _^_, _≤_, _<_}
 use native.Mathlib.Omega.{arith}

@@ -4,7 +4,7 @@ use mathlib.Core.Logic.{_⊎_, ⊎-elim}
 use Prim.Native.Nat.{ℕ, _+_, _-_, _*_, _^_}
 use borrow.Author.Needs.{needs}
 use native.Mathlib.Omega.{arith}
-use Rattle.elementary.specs.Parts.{Near}
+use Rattle.elementary.specs.Inner.Parts.{Near}
 use Rattle.elementary.proofs.root.Settles.{upper-square, halves-product, lower-square, distance, guess-near, next-near, second-near}
 use Rattle.elementary.proofs.root.settled.Statement.{statement}
 use Rattle.elementary.proofs.root.settled.Tie as tie
@@ -51,7 +51,7 @@ mul-if6 c = search needs
 add-if6 : tie.Need-add-if6
 add-if6 c = search needs
 
--- where the checks have passed, r is the distance
+-- where the checks have passed, `distance` is the distance of `guess * guess` to `square` * 2 ^ 52
 apart : (c : tie.Then4)
     → c .before .before .before .before .before .before .before .args .square * 2 ^ 52
     ≡ c .before .before .before .before .before .before .before .args .guess * c .before .before .before .before .before .before .before .args .guess + c .before .wrapping-sub-u643 .result

@@ -14,7 +14,7 @@ use Rattle.elementary.proofs.root.Cases.{sqrt-of-pattern, sqrt-infinite
 use Rattle.elementary.proofs.root.sqrt.Statement.{statement}
 use Rattle.elementary.proofs.root.sqrt.Tie as tie
 
--- what owning an `f64` tells: the format holds it
+-- an argument of type `f64` is a value that the format holds
 held : (c : tie.Start) → T (fits binary64 (c .args .x))
 held c = subst T (sym (c .good .0 .1)) tt
 

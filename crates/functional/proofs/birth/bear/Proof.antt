@@ -3,8 +3,8 @@ use Prim.Native.Nat.{_-_}
 use native.Mathlib.Omega.{arith}
 use borrow.Author.Needs.{needs}
 use denote.Ref.{now}
-use Rattle.candidate.specs.Compared.{isDominated}
-use Rattle.functional.specs.Held.{bornFrom}
+use Rattle.candidate.specs.Dominated.{isDominated}
+use Rattle.functional.specs.Inner.Held.{bornFrom}
 use Rattle.functional.proofs.BirthLaws.{born-cut, borne-gone, borne-stored, borne-full}
 use Rattle.functional.proofs.birth.bear.Statement.{statement}
 use Rattle.functional.proofs.birth.bear.Tie as tie

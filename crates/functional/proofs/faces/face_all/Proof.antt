@@ -9,7 +9,7 @@ use Rattle.functional.proofs.faces.face_all.Tie as tie
 use denote.Ref.{now}
 use Rattle.areas.specs.Parts.{part}
 use Rattle.search_rules.specs.Functional.{facing}
-use Rattle.functional.specs.Held.{task, slotAt, putFacing, Mapped}
+use Rattle.functional.specs.Inner.Held.{task, slotAt, putFacing, Mapped}
 use Rattle.functional.proofs.SlotLaws.{mapped-none, mapped-more, mapped-all}
 
 abbrev Inv-loop : tie.InvT-loop

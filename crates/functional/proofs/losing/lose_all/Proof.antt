@@ -8,7 +8,7 @@ use Rattle.functional.proofs.losing.lose_all.Statement.{statement}
 use Rattle.functional.proofs.losing.lose_all.Tie as tie
 use denote.Ref.{now}
 use Rattle.search_rules.specs.Functional.{innerBall}
-use Rattle.functional.specs.Held.{slotAt, facingAt, Balls, lostBy}
+use Rattle.functional.specs.Inner.Held.{slotAt, facingAt, Balls, lostBy}
 use Rattle.functional.proofs.BallLaws.{balls-none, balls-long, lost-all}
 use Rattle.functional.proofs.BallLaws.{balls-met}
 

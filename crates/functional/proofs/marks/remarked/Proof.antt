@@ -1,5 +1,5 @@
 use mathlib.Core.Path.{refl}
-use Rattle.functional.specs.Held.{ballsIn}
+use Rattle.functional.specs.Inner.Held.{ballsIn}
 use Rattle.functional.proofs.marks.remarked.Statement.{statement}
 use Rattle.functional.proofs.marks.remarked.Tie as tie
 

@@ -1,6 +1,7 @@
 use mathlib.Core.Path.{_≡_, refl}
 use mathlib.Core.Bool.{Bool, true, false, _&&_, false≢true}
 use borrow.Author.Needs.{needs}
+use Rattle.logic.proofs.Laws.{both}
 use Rattle.functional.proofs.marks.same_box.Statement.{statement}
 use Rattle.functional.proofs.marks.same_box.Tie as tie
 
@@ -46,11 +47,6 @@ returns c e =
     let u = both _ _ (t .0) in
     let v = both _ _ (u .0) in
     record { low = c .before .before .before .before .before .before .before .before .before .same-number .ensures (v .0); high = c .before .before .before .before .before .before .same-number2 .ensures (v .1); low-beside = c .before .before .before .same-number3 .ensures (u .1); high-beside = c .same-number4 .ensures (t .1) }
-  where
-    both : (p q : Bool) → (p && q) ≡ true → (p ≡ true) × (q ≡ true)
-    both true true g = (refl, refl)
-    both true false g = absurd (false≢true g)
-    both false q g = absurd (false≢true g)
 
 pub same-box-spec : {M : Type 1} → statement M
 same-box-spec =

@@ -2,7 +2,7 @@ use mathlib.Core.Path.{refl, sym, _∙_}
 use borrow.Author.Needs.{needs}
 use borrow.Author.Tests.{lt-ltb}
 use denote.Ref.{now}
-use Rattle.functional.specs.Held.{isMarked}
+use Rattle.functional.specs.Inner.Held.{isMarked}
 use Rattle.functional.proofs.NarrowLaws.{balls-cut-in}
 use Rattle.functional.proofs.narrowing.cut_box.Statement.{statement}
 use Rattle.functional.proofs.narrowing.cut_box.Tie as tie

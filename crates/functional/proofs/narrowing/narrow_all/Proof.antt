@@ -4,7 +4,7 @@ use native.Mathlib.Nat.{le-antisymm}
 use borrow.Author.Needs.{needs}
 use Rattle.functional.proofs.narrowing.narrow_all.Statement.{statement}
 use Rattle.functional.proofs.narrowing.narrow_all.Tie as tie
-use Rattle.functional.specs.Held.{Narrowed}
+use Rattle.functional.specs.Inner.Held.{Narrowed}
 use Rattle.functional.proofs.NarrowLaws.{narrowed-none, narrowed-more, narrowed-all, narrowed-balls}
 
 abbrev Inv-loop : tie.InvT-loop

@@ -9,7 +9,7 @@ use borrow.Author.Needs.{needs}
 use denote.Ref.{now}
 use Rattle.functional.proofs.narrowing.restrict_all.Statement.{statement}
 use Rattle.functional.proofs.narrowing.restrict_all.Tie as tie
-use Rattle.functional.specs.Held.{slotAt, boxAt, putBox, narrowedAt, Mapped, Remarked}
+use Rattle.functional.specs.Inner.Held.{slotAt, boxAt, putBox, narrowedAt, Mapped, Remarked}
 use Rattle.functional.proofs.SlotLaws.{mapped-none, mapped-more, mapped-all}
 use Rattle.functional.proofs.MarkLaws.{remark, remarked-none, remarked-more, remarked-all}
 

@@ -3,9 +3,9 @@ use Prim.Native.Nat.{_-_}
 use native.Mathlib.Omega.{arith}
 use borrow.Author.Needs.{needs}
 use denote.Ref.{now}
-use Rattle.candidate.specs.Compared.{isDominated}
+use Rattle.candidate.specs.Dominated.{isDominated}
 use Rattle.search_rules.specs.Functional.{cutBack}
-use Rattle.functional.specs.Held.{ballsIn, livedAt, BallsOf}
+use Rattle.functional.specs.Inner.Held.{ballsIn, livedAt, BallsOf}
 use Rattle.functional.proofs.NarrowLaws.{settle-cut, settle-stored, settled-gone, settled-stays, balls-few}
 use Rattle.functional.proofs.narrowing.settle.Statement.{statement}
 use Rattle.functional.proofs.narrowing.settle.Tie as tie

@@ -5,7 +5,7 @@ use lib.ListN.{length-set}
 use borrow.Author.Needs.{needs}
 use Rattle.functional.proofs.narrowing.store.Statement.{statement}
 use Rattle.functional.proofs.narrowing.store.Tie as tie
-use Rattle.functional.specs.Held.{putIndices}
+use Rattle.functional.specs.Inner.Held.{putIndices}
 
 put-box-requires : tie.Need-put-box-requires
 put-box-requires c κs = search needs

@@ -12,9 +12,6 @@ use Rattle.functional.proofs.PartitionLaws.{begun}
 add-w : tie.Need-add-w
 add-w c = search needs
 
-channel-sums-requires : tie.Need-channel-sums-requires
-channel-sums-requires c κs = tt
-
 clear-floats-requires : tie.Need-clear-floats-requires
 clear-floats-requires c κs = tt
 
@@ -41,7 +38,7 @@ mul-indices-3 c = search needs
 
 slice-write-indices-2 : tie.Need-slice-write-indices-2
 slice-write-indices-2 c =
-    let s = c .before .before .before .before .before .before .before .before .before .before .before .before .before .before .before .before .before .before in
+    let s = c .before .before .before .before .before .before .before .before .before .before .before .before .before .before in
     simp length-set (omega (arith, s .pre .0 .indices, c .before .before .clear-indices .kept .0))
 
 put-box-requires : tie.Need-put-box-requires
@@ -49,13 +46,13 @@ put-box-requires c κs = search needs
 
 same-length : tie.Need-same-length
 same-length c =
-    let s = c .before .before .before .before .before .before .before .before .before .before .before .before .before .before .before .before .before .before .before .before .before .before .before in
+    let s = c .before .before .before .before .before .before .before .before .before .before .before .before .before .before .before .before .before .before .before in
     let a = s .args in
-    length-set (c .before .before .before .before .before .before .before .before .before .before .before .before .clear-floats .last .0) (a .plan .f) (neg (a .plan .penalty)) ∙ c .before .before .before .before .before .before .before .before .before .before .before .before .clear-floats .kept .0 ∙ c .before .before .before .before .before .before .before .before .before .before .before .before .before .before .before .before .channel-sums .kept .1 .1 .1 .0
+    length-set (c .before .before .before .before .before .before .before .before .before .before .before .before .clear-floats .last .0) (a .plan .f) (neg (a .plan .penalty)) ∙ c .before .before .before .before .before .before .before .before .before .before .before .before .clear-floats .kept .0
 
 same-length-2 : tie.Need-same-length-2
 same-length-2 c =
-    let q = c .before .before .before .before .before .before .before .before .before .before .before .before .before .before .before .before .before .before .before .before .before .before .before .args .plan in
+    let q = c .before .before .before .before .before .before .before .before .before .before .before .before .before .before .before .before .before .before .before .args .plan in
     let k = c .before .before .before .before .before .before .before .clear-indices in
     length-set (set (k .last .0) (q .n + 1) 0) (2 * (q .n + 1)) 0 ∙ length-set (k .last .0) (q .n + 1) 0 ∙ k .kept .0
 
@@ -64,17 +61,16 @@ same-length-3 c = c .before .before .put-box .kept .0
 
 returns : tie.Need-returns
 returns c =
-    let s = c .before .before .before .before .before .before .before .before .before .before .before .before .before .before .before .before .before .before .before .before .before .before .before in
+    let s = c .before .before .before .before .before .before .before .before .before .before .before .before .before .before .before .before .before .before .before in
     let a = s .args in
     let p = s .pre in
-    begun (now (a .run)) (a .plan) (now (a .floats)) (c .before .before .before .before .before .before .before .before .before .before .before .before .before .before .before .before .channel-sums .last .1 .1 .1 .0) (c .before .before .before .before .before .before .before .before .before .before .before .before .clear-floats .last .0) (now (a .indices)) (c .before .before .before .before .before .before .before .clear-indices .last .0) (now (a .pool)) _ _ _ _ _ (p .0) (p .1) (p .2) (p .3) (c .before .before .before .before .before .before .before .before .before .before .before .before .before .before .before .before .channel-sums .ensures) (c .before .before .before .before .before .before .before .before .before .before .before .before .clear-floats .ensures) (c .before .before .before .before .before .before .before .clear-indices .ensures) (c .before .before .put-box .ensures) refl refl refl refl
+    begun (now (a .run)) (a .plan) (now (a .floats)) (c .before .before .before .before .before .before .before .before .before .before .before .before .clear-floats .last .0) (now (a .indices)) (c .before .before .before .before .before .before .before .clear-indices .last .0) (now (a .pool)) _ _ _ _ _ (p .0) (p .1) (p .2) (p .3) (c .before .before .before .before .before .before .before .before .before .before .before .before .clear-floats .ensures) (c .before .before .before .before .before .before .before .clear-indices .ensures) (c .before .before .put-box .ensures) refl refl refl refl
 
 pub begin-spec : {M : Type 1} → statement M
 begin-spec =
     tie.close
     (tie.spec
     add-w
-    channel-sums-requires
     clear-floats-requires
     mul-floats
     slice-write-floats

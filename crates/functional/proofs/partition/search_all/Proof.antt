@@ -1,13 +1,14 @@
 use mathlib.Core.Path.{refl, _∙_}
-use Prim.Native.Nat.{_-_}
+use Prim.Native.Nat.{_+_, _-_}
 use native.Mathlib.Omega.{arith}
 use borrow.Author.Needs.{needs}
 use Rattle.functional.proofs.partition.search_all.Statement.{statement}
 use Rattle.functional.proofs.partition.search_all.Tie as tie
 use denote.Ref.{now}
 use Rattle.sums.proofs.ChannelLaws.{sums-small}
-use Rattle.search_rules.proofs.RoomLaws.{fits-series, fits-room}
-use Rattle.functional.proofs.PartitionLaws.{range-of-task, plan-room, no-slot, ran}
+use Rattle.search_rules.proofs.RoomLaws.{fits-series, fits-room, split-floats}
+use Rattle.functional.proofs.ChannelLaws.{range-of-task}
+use Rattle.functional.proofs.PartitionLaws.{plan-room, no-slot, ran}
 
 returns : tie.Need-returns
 returns c = no-slot _ _ _ (c .if1 .taken)
@@ -24,15 +25,20 @@ mul-t15 c =
     let s = fits-series _ _ _ _ _ _ (c .before .before .before .before .before .pre .2) in
     omega (arith, sums-small (a .n) (a .channels) (s .few) (s .short))
 
-range-box-requires : tie.Need-range-box-requires
-range-box-requires c κs = c .before .before .before .before .before .pre .0
+sum-channels-requires : tie.Need-sum-channels-requires
+sum-channels-requires c κs =
+    let a = c .before .before .before .before .before .before .args in
+    let p = c .before .before .before .before .before .before .pre in
+    let s = fits-series _ _ _ _ _ _ (p .2) in
+    (p .0, p .1, s .short, s .readings, omega (arith, fits-room _ _ _ _ _ _ (p .2) .floats, split-floats (a .channels) (a .n + 1)))
 
 begin-requires : tie.Need-begin-requires
 begin-requires c κs =
-    let a = c .before .before .before .before .before .before .before .before .before .args in
-    let p = c .before .before .before .before .before .before .before .before .before .pre in
+    let a = c .before .before .before .before .before .before .before .before .before .before .before .before .args in
+    let p = c .before .before .before .before .before .before .before .before .before .before .before .before .pre in
     let s = fits-series _ _ _ _ _ _ (p .2) in
-    (plan-room _ _ _ _ _ _ _ _ _ _ _ (p .0) (p .1) s (fits-room _ _ _ _ _ _ (p .2)) refl (omega arith), s .readings, c .before .before .before .before .if1 .left, c .before .before .before .range-box .ensures ∙ range-of-task (now (a .run)) (a .n) (a .channels) (a .m) (a .penalty))
+    let k = c .before .before .before .before .before .sum-channels in
+    (rw (k .kept .1 .1 .1 .0) (plan-room _ _ _ _ _ _ _ _ _ _ _ (p .0) (p .1) s (fits-room _ _ _ _ _ _ (p .2)) refl (omega arith)), k .ensures .1, c .before .before .before .before .before .before .before .if1 .left, k .ensures .0 ∙ range-of-task (now (a .run)) (a .n) (a .channels) (a .m) (a .penalty))
 
 slice-aggregate-search : tie.Need-slice-aggregate-search
 slice-aggregate-search c = search needs
@@ -41,7 +47,7 @@ search-requires : tie.Need-search-requires
 search-requires c κs = (c .before .before .before .before .before .before .before .before .before .before .begin .ensures, refl)
 
 same-length : tie.Need-same-length
-same-length c = c .before .before .before .before .before .before .before .search .kept .1 .0 ∙ c .before .before .before .before .before .before .before .before .before .before .before .before .before .before .before .before .before .before .begin .kept .1 .0
+same-length c = c .before .before .before .before .before .before .before .search .kept .1 .0 ∙ c .before .before .before .before .before .before .before .before .before .before .before .before .before .before .before .before .before .before .begin .kept .1 .0 ∙ c .before .before .before .before .before .before .before .before .before .before .before .before .before .before .before .before .before .before .before .before .before .before .before .before .sum-channels .kept .1 .1 .1 .0
 
 same-length-2 : tie.Need-same-length-2
 same-length-2 c = c .before .before .before .before .before .before .before .search .kept .1 .1 .0 ∙ c .before .before .before .before .before .before .before .before .before .before .before .before .before .before .before .before .before .before .begin .kept .1 .1 .0
@@ -60,7 +66,7 @@ search-all-spec =
     add-t12
     mul-t14
     mul-t15
-    range-box-requires
+    sum-channels-requires
     begin-requires
     slice-aggregate-search
     search-requires

@@ -6,7 +6,7 @@ use borrow.Author.Needs.{needs}
 use Rattle.functional.proofs.slots.put_box.Statement.{statement}
 use Rattle.functional.proofs.slots.put_box.Tie as tie
 use denote.Ref.{now}
-use Rattle.functional.specs.Held.{putBox}
+use Rattle.functional.specs.Inner.Held.{putBox}
 use Rattle.functional.proofs.SlotLaws.{put-four}
 
 mul-base : tie.Need-mul-base

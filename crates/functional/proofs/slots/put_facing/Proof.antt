@@ -6,7 +6,7 @@ use borrow.Author.Needs.{needs}
 use Rattle.functional.proofs.slots.put_facing.Statement.{statement}
 use Rattle.functional.proofs.slots.put_facing.Tie as tie
 use denote.Ref.{now}
-use Rattle.functional.specs.Held.{putFacing}
+use Rattle.functional.specs.Inner.Held.{putFacing}
 use Rattle.functional.proofs.SlotLaws.{put-four}
 
 mul-base : tie.Need-mul-base

@@ -13,7 +13,7 @@ use Rattle.floats.specs.Numbers.{_+ᶠ_}
 use Rattle.areas.specs.Parts.{part}
 use Rattle.search_rules.specs.Minimum.{scanTo}
 use Rattle.search_rules.specs.Functional.{price}
-use Rattle.functional.specs.Held.{task, taus}
+use Rattle.functional.specs.Inner.Held.{task, taus}
 use Rattle.functional.proofs.StepLaws.{scanned-more}
 
 abbrev Inv-loop : tie.InvT-loop

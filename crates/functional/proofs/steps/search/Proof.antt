@@ -6,7 +6,7 @@ use lib.ListN.{length}
 use borrow.Author.Needs.{needs}
 use Rattle.functional.proofs.steps.search.Statement.{statement}
 use Rattle.functional.proofs.steps.search.Tie as tie
-use Rattle.functional.specs.Held.{Holds}
+use Rattle.functional.specs.Inner.Held.{Holds}
 use Rattle.functional.proofs.StepLaws.{searched-stopped, searched-through}
 
 abbrev Inv-loop : tie.InvT-loop

@@ -1,10 +1,11 @@
+-- `inequality::keeping::fours_staying` meets its contract. The loop's invariant: the first `j` candidates stay. Assumes nothing.
 use mathlib.Core.Path.{refl, sym, _∙_}
 use Prim.Native.Nat.{_≤_, _-_}
 use native.Mathlib.Omega.{arith}
 use borrow.Author.Needs.{needs}
 use Rattle.inequality.proofs.keeping.fours_staying.Statement.{statement}
 use Rattle.inequality.proofs.keeping.fours_staying.Tie as tie
-use Rattle.inequality.specs.Staying.{Staying}
+use Rattle.inequality.specs.Inner.Staying.{Staying}
 use Rattle.inequality.proofs.KeepingLaws.{staying-none, staying-four}
 
 abbrev Inv-loop : tie.InvT-loop

@@ -1,3 +1,4 @@
+-- `inequality::keeping::join_runs` meets its contract. The loop's invariant: the first `run` parts are done, and the next one stands at `base`. Assumes nothing.
 use mathlib.Core.Path.{_≡_, refl, sym}
 use Prim.Native.Nat.{ℕ, _≤_, _*_, _-_, _+_}
 use native.Mathlib.Omega.{arith}
@@ -8,7 +9,7 @@ use Rattle.inequality.proofs.keeping.join_runs.Tie as tie
 use mathlib.Core.Path.{subst}
 use native.Mathlib.Nat.{zero-mul}
 use Rattle.sums.proofs.ChannelLaws.{mul-more}
-use Rattle.inequality.specs.Staying.{Joined}
+use Rattle.inequality.specs.Inner.Staying.{Joined}
 use Rattle.inequality.proofs.KeepingLaws.{joined-none, joined-more}
 use denote.Ref.{now}
 use Rattle.inequality.proofs.KeepingLaws.{run-room}

@@ -1,9 +1,9 @@
--- `inequality::keeping::leaving` meets its contract. Assumes nothing.
+-- `inequality::keeping::leaving` meets its contract. The loop's invariant: none of the candidates from `from` up to `j` stays. Assumes nothing.
 use mathlib.Core.Path.{_≡_, refl, sym, _∙_}
 use Prim.Native.Nat.{_≤_, _-_}
 use native.Mathlib.Omega.{arith}
 use borrow.Author.Needs.{needs}
-use Rattle.inequality.specs.Staying.{Leaving}
+use Rattle.inequality.specs.Inner.Staying.{Leaving}
 use Rattle.inequality.proofs.KeepingLaws.{leaving-none, leaving-more}
 use Rattle.inequality.proofs.keeping.leaving.Statement.{statement}
 use Rattle.inequality.proofs.keeping.leaving.Tie as tie

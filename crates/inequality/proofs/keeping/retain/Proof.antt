@@ -1,3 +1,4 @@
+-- `inequality::keeping::retain` meets its contract, whether a candidate goes or none. Assumes nothing.
 use Prim.Native.Nat.{_*_, _-_, _+_}
 use native.Mathlib.Omega.{arith}
 use native.Mathlib.Nat.{le-antisymm}

@@ -1,3 +1,4 @@
+-- `inequality::keeping::retain_indices` meets its contract. The loop's invariant: the first `i` candidates are looked at, and `kept` of them moved. Assumes nothing.
 use mathlib.Core.Path.{refl, sym, _∙_}
 use Prim.Native.Nat.{_≤_, _-_}
 use native.Mathlib.Omega.{arith}
@@ -5,7 +6,7 @@ use native.Mathlib.Nat.{le-antisymm}
 use borrow.Author.Needs.{needs}
 use Rattle.inequality.proofs.keeping.retain_indices.Statement.{statement}
 use Rattle.inequality.proofs.keeping.retain_indices.Tie as tie
-use Rattle.inequality.specs.Staying.{Retained}
+use Rattle.inequality.specs.Inner.Staying.{Retained}
 use Rattle.inequality.proofs.KeepingLaws.{retained-leaving, retained-yes, retained-no, retained-all}
 
 abbrev Inv-loop : tie.InvT-loop

@@ -1,3 +1,4 @@
+-- `inequality::keeping::retain_run` meets its contract. The loop's invariant: the first `i` values are looked at, and `kept` of them moved. Assumes nothing.
 use mathlib.Core.Path.{_≡_, refl, sym, ap, _∙_}
 use Prim.Native.Nat.{_≤_, _<_, _-_, _+_}
 use native.Mathlib.Omega.{arith}
@@ -9,7 +10,7 @@ use Rattle.inequality.proofs.keeping.retain_run.Statement.{statement}
 use Rattle.inequality.proofs.keeping.retain_run.Tie as tie
 use denote.Ref.{now}
 use Rattle.floats.specs.Numbers.{_<ᶠ_}
-use Rattle.inequality.specs.Staying.{Retained}
+use Rattle.inequality.specs.Inner.Staying.{Retained}
 use Rattle.inequality.proofs.WrittenLaws.{at-back}
 use Rattle.inequality.proofs.KeepingLaws.{retained-leaving, retained-yes, retained-no, retained-all}
 

@@ -1,3 +1,4 @@
+-- `inequality::keeping::retain_runs` meets its contract. The loop's invariant: the first `run` parts are done, and the next one stands at `base`. Assumes nothing.
 use mathlib.Core.Path.{_≡_, sym}
 use Prim.Native.Nat.{ℕ, _≤_, _*_, _-_, _+_}
 use native.Mathlib.Omega.{arith}
@@ -10,7 +11,7 @@ use mathlib.Core.Path.{subst}
 use native.Mathlib.Nat.{zero-mul}
 use denote.Ref.{now}
 use Rattle.sums.proofs.ChannelLaws.{mul-more}
-use Rattle.inequality.specs.Staying.{RetainedRuns}
+use Rattle.inequality.specs.Inner.Staying.{RetainedRuns}
 use Rattle.inequality.proofs.WrittenLaws.{at-back}
 use Rattle.inequality.proofs.KeepingLaws.{runs-none, runs-more, staying-kept, leaving-kept}
 use Rattle.inequality.proofs.KeepingLaws.{run-room}

@@ -1,3 +1,4 @@
+-- `inequality::lowest::better_of_four` meets its contract, whether one of the four is below the best or none. Assumes nothing.
 use mathlib.Core.Path.{refl, sym, _∙_}
 use Prim.Native.Nat.{_-_}
 use borrow.Author.Needs.{needs}

@@ -1,3 +1,4 @@
+-- `inequality::lowest::better_to` meets its contract. The loop's invariant: `found` is the best of the first `j` candidates. Assumes nothing.
 use mathlib.Core.Path.{_≡_, ap, _∙_}
 use Prim.Native.Nat.{_≤_, _-_, _+_}
 use native.Mathlib.Omega.{arith}
@@ -8,7 +9,7 @@ use Rattle.inequality.proofs.lowest.better_to.Statement.{statement}
 use Rattle.inequality.proofs.lowest.better_to.Tie as tie
 use denote.Ref.{now}
 use Rattle.floats.specs.Numbers.{_+ᶠ_}
-use Rattle.inequality.specs.Weights.{lowestBy}
+use Rattle.inequality.specs.Inner.Weights.{lowestBy}
 use Rattle.inequality.proofs.LowestLaws.{lowest-more}
 
 abbrev Inv-loop : tie.InvT-loop

@@ -1,10 +1,11 @@
+-- `inequality::lowest::lowest` meets its contract. The loop's invariant: `best` is that of the first `j` candidates. Assumes nothing.
 use mathlib.Core.Path.{_≡_}
 use Prim.Native.Nat.{_≤_, _-_}
 use native.Mathlib.Omega.{arith}
 use borrow.Author.Needs.{needs}
 use Rattle.inequality.proofs.lowest.lowest.Statement.{statement}
 use Rattle.inequality.proofs.lowest.lowest.Tie as tie
-use Rattle.inequality.specs.Weights.{lowestBy}
+use Rattle.inequality.specs.Inner.Weights.{lowestBy}
 
 abbrev Inv-loop : tie.InvT-loop
 Inv-loop floats indices plan old best₀ j₀ best j = (j ≤ old) × (best ≡ lowestBy plan floats indices j)

@@ -1,3 +1,4 @@
+-- `inequality::lowest::total_below` meets its contract. Assumes nothing.
 use mathlib.Core.Path.{ap}
 use Prim.Native.Nat.{_<_, _-_, _+_}
 use lib.Ieee.{Float}

@@ -1,3 +1,4 @@
+-- `inequality::normal::add_block` meets its contract: the variances, their logarithms, and the costs added. Assumes nothing.
 use mathlib.Core.Path.{_≡_, sym, _∙_}
 use Prim.Native.Nat.{ℕ, _-_, _+_}
 use native.Mathlib.Omega.{arith}
@@ -8,7 +9,7 @@ use Rattle.inequality.proofs.normal.add_block.Tie as tie
 use mathlib.Core.Path.{subst}
 use denote.Ref.{now}
 use Rattle.areas.specs.Parts.{part}
-use Rattle.inequality.specs.Held.{AllBelow}
+use Rattle.inequality.specs.Inner.Held.{AllBelow}
 use Rattle.inequality.proofs.WeightLaws.{block-added}
 
 vary-requires : tie.Need-vary-requires

@@ -1,3 +1,4 @@
+-- `inequality::normal::add_normal` meets its contract. The loop's invariant: the costs of the first `first` candidates are added. Assumes nothing.
 use mathlib.Core.Path.{_≡_, refl, _∙_}
 use Prim.Native.Nat.{_≤_, _-_, _+_}
 use native.Mathlib.Omega.{arith}
@@ -9,7 +10,7 @@ use Rattle.inequality.proofs.normal.add_normal.Tie as tie
 use denote.Ref.{now}
 use borrow.Rule.Slice.PartMut.{same-len-mid}
 use Rattle.costs.specs.declared.CostFunction.the-variants.{Normal}
-use Rattle.inequality.specs.Weights.{Written, added}
+use Rattle.inequality.specs.Inner.Weights.{Written, added}
 use Rattle.inequality.proofs.WrittenLaws.{written-none, written-all}
 use Rattle.inequality.proofs.WeightLaws.{block-more}
 use Rattle.inequality.proofs.WeightLaws.{below-fewer, front-length}

@@ -1,3 +1,4 @@
+-- `inequality::normal::put` meets its contract. The loop's invariant: the first `i` costs are added. Assumes nothing.
 use mathlib.Core.Path.{refl}
 use Prim.Native.Nat.{_≤_, _*_, _-_, _+_}
 use native.Mathlib.Omega.{arith}
@@ -9,7 +10,7 @@ use Rattle.inequality.proofs.normal.put.Statement.{statement}
 use Rattle.inequality.proofs.normal.put.Tie as tie
 use denote.Ref.{now}
 use Rattle.floats.specs.Numbers.{_+ᶠ_, _*ᶠ_}
-use Rattle.inequality.specs.Weights.{Written, lengthBy}
+use Rattle.inequality.specs.Inner.Weights.{Written, lengthBy}
 use Rattle.inequality.proofs.WrittenLaws.{at-back, written-none, written-more, written-all}
 use Rattle.inequality.proofs.WeightLaws.{candidate-below}
 

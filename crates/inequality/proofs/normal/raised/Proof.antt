@@ -1,3 +1,4 @@
+-- `inequality::normal::raised` meets its contract. Assumes nothing.
 use mathlib.Core.Path.{refl}
 use Prim.Native.Nat.{_-_}
 use Rattle.inequality.proofs.normal.raised.Statement.{statement}
@@ -5,7 +6,7 @@ use Rattle.inequality.proofs.normal.raised.Tie as tie
 use lib.Ieee.{nanBits, ofBits}
 use Rattle.floats.specs.Numbers.{ratio}
 use Rattle.costs.specs.Costs.{smallestNormal}
-use Rattle.inequality.specs.Weights.{raised}
+use Rattle.inequality.specs.Inner.Weights.{raised}
 
 float-from-bits-result : tie.Need-float-from-bits-result
 unfolding nanBits

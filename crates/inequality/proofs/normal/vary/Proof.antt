@@ -1,3 +1,4 @@
+-- `inequality::normal::vary` meets its contract. The loop's invariant: the first `i` variances are written. Assumes nothing.
 use mathlib.Core.Path.{refl}
 use Prim.Native.Nat.{_≤_, _-_, _+_}
 use native.Mathlib.Omega.{arith}
@@ -7,7 +8,7 @@ use borrow.Author.Needs.{needs}
 use Rattle.inequality.proofs.normal.vary.Statement.{statement}
 use Rattle.inequality.proofs.normal.vary.Tie as tie
 use denote.Ref.{now}
-use Rattle.inequality.specs.Weights.{Written, varianceBy}
+use Rattle.inequality.specs.Inner.Weights.{Written, varianceBy}
 use Rattle.inequality.proofs.WrittenLaws.{written-none, written-more, written-all, written-whole}
 use Rattle.inequality.proofs.WeightLaws.{variance-here, candidate-below}
 

@@ -1,3 +1,4 @@
+-- `inequality::pruned::partition_pruned` meets its contract, whether the search fits or not. Assumes nothing.
 use mathlib.Core.Path.{_≡_, refl, sym, _∙_}
 use Prim.Native.Nat.{_≤_, _*_, _-_, _+_}
 use native.Mathlib.Omega.{arith}
@@ -14,7 +15,7 @@ use Rattle.inequality.proofs.PrunedLaws.{plan-room, pruned-found, prune
 search-fits-requires : tie.Need-search-fits-requires
 search-fits-requires c κs = tt
 
--- the search fits, and the products with it
+-- the search fits
 fits : (c : tie.Then1) → let a = c .before .before .before .before .before .args in searchFits (length (now (a .run))) (a .n) (a .channels) (a .m) (length (now (a .floats))) (length (now (a .indices))) ≡ true
 fits c = sym (c .before .search-fits .ensures) ∙ c .if1 .taken
 

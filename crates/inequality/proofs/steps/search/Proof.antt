@@ -1,3 +1,4 @@
+-- `inequality::steps::search` meets its contract. The loop's invariant: the areas hold the state after the steps before `t`. Assumes nothing.
 use mathlib.Core.Path.{_≡_, refl, _∙_}
 use Prim.Native.Nat.{_≤_, _-_, _+_}
 use native.Mathlib.Omega.{arith}
@@ -6,7 +7,7 @@ use lib.ListN.{length}
 use borrow.Author.Needs.{needs}
 use Rattle.inequality.proofs.steps.search.Statement.{statement}
 use Rattle.inequality.proofs.steps.search.Tie as tie
-use Rattle.inequality.specs.Held.{Holds}
+use Rattle.inequality.specs.Inner.Held.{Holds}
 use Rattle.inequality.proofs.StepLaws.{holds-at}
 
 abbrev Inv-loop : tie.InvT-loop

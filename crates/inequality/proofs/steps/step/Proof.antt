@@ -1,3 +1,4 @@
+-- `inequality::steps::step` meets its contract: what its calls have done is a step of the recurrence. Assumes nothing.
 use mathlib.Core.Path.{_∙_}
 use Prim.Native.Nat.{_-_, _+_}
 use native.Mathlib.Omega.{arith}

@@ -1,3 +1,4 @@
+-- `inequality::weights::add_channels` meets its contract. The loop's invariant: the costs of the first `c` channels are added, and the next one's sums stand at `place`. Assumes nothing.
 use mathlib.Core.Path.{_≡_, refl, _∙_}
 use Prim.Native.Nat.{ℕ, _≤_, _*_, _-_, _+_}
 use native.Mathlib.Omega.{arith}
@@ -10,7 +11,7 @@ use denote.Ref.{now}
 use mathlib.Core.Path.{subst}
 use lib.Ieee.{ofBits}
 use native.Mathlib.Nat.{zero-mul, one-mul}
-use Rattle.inequality.specs.Weights.{Written, costBy}
+use Rattle.inequality.specs.Inner.Weights.{Written, costBy}
 use Rattle.inequality.proofs.WeightLaws.{channel-room, twice-add, channels-none, channels-more, channels-since, runs-small}
 use Rattle.sums.proofs.ChannelLaws.{sums-small}
 

@@ -1,3 +1,4 @@
+-- `inequality::weights::add_least` meets its contract. The loop's invariant: F is added for the first `j` candidates. Assumes nothing.
 use mathlib.Core.Path.{refl, _∙_}
 use Prim.Native.Nat.{_≤_, _-_, _+_}
 use native.Mathlib.Omega.{arith}
@@ -9,7 +10,7 @@ use Rattle.inequality.proofs.weights.add_least.Statement.{statement}
 use Rattle.inequality.proofs.weights.add_least.Tie as tie
 use mathlib.Core.Path.{ap₂}
 use Rattle.floats.specs.Numbers.{_+ᶠ_}
-use Rattle.inequality.specs.Weights.{Written}
+use Rattle.inequality.specs.Inner.Weights.{Written}
 use Rattle.inequality.proofs.WrittenLaws.{at-front, at-back, written-none, written-more, written-all}
 
 abbrev Inv-loop : tie.InvT-loop

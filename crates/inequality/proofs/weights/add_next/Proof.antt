@@ -1,3 +1,4 @@
+-- `inequality::weights::add_next` meets its contract, by the cost function and the channels that are left. Assumes nothing.
 use Prim.Native.Nat.{_-_}
 use native.Mathlib.Omega.{arith}
 use borrow.Author.Needs.{needs}

@@ -1,3 +1,4 @@
+-- `inequality::weights::fill` meets its contract. The loop's invariant: the first `j` floats are set. Assumes nothing.
 use mathlib.Core.Path.{refl}
 use Prim.Native.Nat.{_≤_, _-_}
 use native.Mathlib.Omega.{arith}
@@ -5,7 +6,7 @@ use native.Mathlib.Nat.{le-antisymm}
 use borrow.Author.Needs.{needs}
 use Rattle.inequality.proofs.weights.fill.Statement.{statement}
 use Rattle.inequality.proofs.weights.fill.Tie as tie
-use Rattle.inequality.specs.Weights.{Written}
+use Rattle.inequality.specs.Inner.Weights.{Written}
 use Rattle.inequality.proofs.WrittenLaws.{written-none, written-more, written-all}
 
 abbrev Inv-loop : tie.InvT-loop

@@ -1,3 +1,4 @@
+-- `inequality::weights::length_of` meets its contract. Assumes nothing.
 use mathlib.Core.Path.{sym}
 use Prim.Native.Nat.{_-_}
 use native.Mathlib.Omega.{arith}

@@ -1,3 +1,4 @@
+-- `inequality::weights::old_count` meets its contract. The loop's invariant: the candidates behind the first `old` are young. Assumes nothing.
 use mathlib.Core.Path.{_≡_, refl, sym, ap, _∙_}
 use Prim.Native.Nat.{ℕ, _≤_, _<_, _-_}
 use native.Mathlib.Omega.{arith}
@@ -14,7 +15,7 @@ use Rattle.search_rules.specs.Inequality.{oldEnough}
 use Rattle.inequality.proofs.WeightLaws.{parted-here, parted-none, young-more}
 use native.Mathlib.Nat.{lt-irrefl, lt-of-lt-of-le}
 use mathlib.Core.Path.{subst}
-use Rattle.inequality.specs.Weights.{Parted}
+use Rattle.inequality.specs.Inner.Weights.{Parted}
 use Rattle.inequality.proofs.WeightLaws.{candidate-at, candidate-below}
 
 abbrev Inv-loop : tie.InvT-loop

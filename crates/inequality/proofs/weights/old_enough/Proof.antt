@@ -1,3 +1,4 @@
+-- `inequality::weights::old_enough` meets its contract. Assumes nothing.
 use mathlib.Core.Path.{refl}
 use Prim.Native.Nat.{_-_}
 use borrow.Author.Needs.{needs}

@@ -1,3 +1,4 @@
+-- `inequality::weights::weigh` meets its contract: the costs, F in front, and minus infinity behind them. Assumes nothing.
 use mathlib.Core.Path.{refl, _∙_}
 use Prim.Native.Nat.{_-_}
 use native.Mathlib.Omega.{arith}

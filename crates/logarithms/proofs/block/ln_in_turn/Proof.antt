@@ -1,4 +1,4 @@
--- `logarithms::block::ln_in_turn` meets its contract. The loop's invariant: the first i values are done and the others as they were. Assumes nothing.
+-- `logarithms::block::ln_in_turn` meets its contract. The loop's invariant: the first `i` values are done and the others as they were. Assumes nothing.
 use mathlib.Core.Path.{_≡_, refl, ap, _∙_}
 use Prim.Native.Nat.{_≤_, _-_}
 use native.Mathlib.Omega.{arith}
@@ -6,7 +6,7 @@ use native.Mathlib.Nat.{le-antisymm, le-refl}
 use lib.ListN.{length, length-set}
 use borrow.Author.Needs.{needs}
 use Rattle.elementary.specs.Logarithm.{ln}
-use Rattle.logarithms.specs.Stages.{Each, Kept}
+use Rattle.logarithms.specs.Inner.Stages.{Each, Kept}
 use Rattle.logarithms.proofs.EachLaws.{each-none, each-more, kept-all, kept-less, Lned, ln-all}
 use Rattle.logarithms.proofs.block.ln_in_turn.Statement.{statement}
 use Rattle.logarithms.proofs.block.ln_in_turn.Tie as tie

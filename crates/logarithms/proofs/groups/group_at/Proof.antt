@@ -7,7 +7,7 @@ use lib.ListN.{length, getD, length-set}
 use lib.Ieee.{nan}
 use borrow.Author.Needs.{needs}
 use denote.Ref.{now}
-use Rattle.logarithms.specs.Stages.{Filled}
+use Rattle.logarithms.specs.Inner.Stages.{Filled}
 use Rattle.logarithms.proofs.GroupLaws.{filled-none, filled-more, filled-fewer}
 use Rattle.logarithms.proofs.groups.group_at.Statement.{statement}
 use Rattle.logarithms.proofs.groups.group_at.Tie as tie

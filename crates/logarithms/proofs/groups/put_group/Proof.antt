@@ -7,7 +7,7 @@ use lib.ListN.{length, getD, length-set}
 use lib.Ieee.{nan}
 use borrow.Author.Needs.{needs}
 use denote.Ref.{now}
-use Rattle.logarithms.specs.Stages.{Put}
+use Rattle.logarithms.specs.Inner.Stages.{Put}
 use Rattle.logarithms.proofs.GroupLaws.{put-none, put-more, put-fewer}
 use Rattle.logarithms.proofs.groups.put_group.Statement.{statement}
 use Rattle.logarithms.proofs.groups.put_group.Tie as tie

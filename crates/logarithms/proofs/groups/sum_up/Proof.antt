@@ -1,11 +1,11 @@
--- `logarithms::groups::sum_up` meets its contract. The loop's invariant: so many groups of sums are done. Assumes nothing.
+-- `logarithms::groups::sum_up` meets its contract. The loop's invariant: the sums of the first `group` groups are done. Assumes nothing.
 use mathlib.Core.Path.{_≡_, refl, subst, _∙_}
 use Prim.Native.Nat.{ℕ, _≤_, _<_, _*_, _-_, _+_}
 use native.Mathlib.Omega.{arith}
 use lib.ListN.{length}
 use borrow.Author.Needs.{needs}
 use denote.Ref.{now}
-use Rattle.logarithms.specs.Stages.{Begun, Each}
+use Rattle.logarithms.specs.Inner.Stages.{Begun, Each}
 use Rattle.logarithms.proofs.EachLaws.{each-none}
 use Rattle.logarithms.proofs.GroupLaws.{each-fewer, each-group}
 use Rattle.logarithms.proofs.groups.sum_up.Statement.{statement}

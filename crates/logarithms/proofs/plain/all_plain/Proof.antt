@@ -7,7 +7,7 @@ use lib.ListN.{length}
 use borrow.Author.Needs.{needs}
 use denote.Ref.{now}
 use borrow.Author.Tests.{eqb-true}
-use Rattle.logarithms.specs.Stages.{Plain}
+use Rattle.logarithms.specs.Inner.Stages.{Plain}
 use Rattle.logarithms.proofs.EachLaws.{plain-none, plain-more}
 use Rattle.logarithms.proofs.plain.all_plain.Statement.{statement}
 use Rattle.logarithms.proofs.plain.all_plain.Tie as tie

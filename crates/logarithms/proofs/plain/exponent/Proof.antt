@@ -7,7 +7,7 @@ use lib.Dec.{T}
 use lib.IntN.{pos, _-ℤ_}
 use lib.Ieee.{binary64, ofInt}
 use Rattle.elementary.proofs.Laws.{small-signed, difference-fits, difference-kept}
-use Rattle.logarithms.specs.Stages.{exponentOf}
+use Rattle.logarithms.specs.Inner.Stages.{exponentOf}
 use Rattle.logarithms.proofs.PlainLaws.{high-bound}
 use Rattle.logarithms.proofs.plain.exponent.Statement.{statement}
 use Rattle.logarithms.proofs.plain.exponent.Tie as tie

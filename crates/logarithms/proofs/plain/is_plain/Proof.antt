@@ -1,6 +1,6 @@
 -- `logarithms::plain::is_plain` meets its contract. Assumes nothing.
 use mathlib.Core.Path.{refl}
-use Rattle.logarithms.specs.Stages.{plain}
+use Rattle.logarithms.specs.Inner.Stages.{plain}
 use lib.Ieee.{nanBits, lt}
 use Rattle.logarithms.proofs.plain.is_plain.Statement.{statement}
 use Rattle.logarithms.proofs.plain.is_plain.Tie as tie

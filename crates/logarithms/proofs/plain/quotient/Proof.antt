@@ -5,7 +5,7 @@ use native.Mathlib.Omega.{arith}
 use borrow.Author.Needs.{needs}
 use lib.Ieee.{binary64, ofBits, ofInt}
 use Rattle.elementary.proofs.Laws.{low-pattern}
-use Rattle.logarithms.specs.Stages.{quotientBy, quotientOf}
+use Rattle.logarithms.specs.Inner.Stages.{quotientBy, quotientOf}
 use Rattle.logarithms.proofs.plain.quotient.Statement.{statement}
 use Rattle.logarithms.proofs.plain.quotient.Tie as tie
 

@@ -1,4 +1,4 @@
--- `logarithms::stages::join` meets its contract. The loop's invariant: the first i values are done and the others as they were. Assumes nothing.
+-- `logarithms::stages::join` meets its contract. The loop's invariant: the first `i` values are done and the others as they were. Assumes nothing.
 use mathlib.Core.Path.{_≡_, refl, sym, ap, _∙_}
 use Prim.Native.Nat.{_≤_, _<_, _-_}
 use native.Mathlib.Omega.{arith}
@@ -7,7 +7,7 @@ use lib.ListN.{length, length-set}
 use borrow.Author.Needs.{needs}
 use denote.Ref.{now}
 use Rattle.elementary.specs.Logarithm.{ln}
-use Rattle.logarithms.specs.Stages.{plain, quotientOf, Each, Kept}
+use Rattle.logarithms.specs.Inner.Stages.{plain, quotientOf, Each, Kept}
 use Rattle.logarithms.proofs.EachLaws.{each-none, each-more, kept-all, kept-less, Lned, ln-all}
 use Rattle.logarithms.proofs.stages.join.Statement.{statement}
 use Rattle.logarithms.proofs.stages.join.Tie as tie

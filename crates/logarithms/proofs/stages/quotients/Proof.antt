@@ -6,7 +6,7 @@ use native.Mathlib.Nat.{le-antisymm}
 use lib.ListN.{length, length-set}
 use borrow.Author.Needs.{needs}
 use denote.Ref.{now}
-use Rattle.logarithms.specs.Stages.{Each, Split}
+use Rattle.logarithms.specs.Inner.Stages.{Each, Split}
 use Rattle.logarithms.proofs.EachLaws.{each-none, each-more}
 use Rattle.logarithms.proofs.stages.quotients.Statement.{statement}
 use Rattle.logarithms.proofs.stages.quotients.Tie as tie

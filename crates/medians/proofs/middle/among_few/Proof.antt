@@ -1,4 +1,4 @@
--- `medians::middle::among_few` meets its contract: a place within the bracket is one among the values that were copied. Assumes nothing.
+-- `medians::middle::among_few` meets its contract: a rank within the bracket is one among the values that were copied. Assumes nothing.
 use mathlib.Core.Path.{_≡_, refl, sym, ap, _∙_, subst}
 use mathlib.Core.List.{List}
 use Prim.Native.Nat.{ℕ, _≤_, _<_, _-_}
@@ -7,7 +7,7 @@ use lib.ListN.{length, take}
 use lib.Ieee.{Float}
 use native.Mathlib.Nat.{le-refl}
 use denote.Ref.{now}
-use Rattle.medians.specs.Ranks.{Each, magnitude, rankedOf, inBracket}
+use Rattle.medians.specs.Inner.Ranks.{Each, magnitude, rankedOf, inBracket}
 use Rattle.medians.proofs.KeptLaws.{kept-each, kept-length}
 use Rattle.medians.proofs.BracketLaws.{bracket-size, bracket-inside, bracket-ranked}
 use Rattle.medians.proofs.middle.among_few.Statement.{statement}
@@ -20,7 +20,7 @@ size-fits c =
     let run = now (c .before .before .before .before .before .args .run) in
     omega (arith, c .gather .ensures .0, kept-length (inBracket (c .before .before .before .from-bits .result) (c .before .before .from-bits2 .result)) run, bracket-size run (c .before .before .before .before .before .args .b) (p .0) (c .before .before .before .from-bits .ensures) (c .before .before .from-bits2 .ensures) (c .before .before .before .before .before .args .first) (le-refl (c .before .before .before .before .before .args .first)) (p .0 .many), p .3, c .gather .kept .1 .1 .1 .0)
 
--- a place within the bracket is one among those values, and the value there is the one at the place
+-- a rank `k` within the bracket is the rank `k - b.under` among the values that were copied, and the value there is the same
 among : (c : tie.After-gather) (k : ℕ) → c .before .before .before .before .before .args .first ≤ k → k < c .before .before .before .before .before .args .b .upto
     → (k - c .before .before .before .before .before .args .b .under < length (take (c .gather .result) (c .gather .last .1 .1 .1 .0))) × Each magnitude (take (c .gather .result) (c .gather .last .1 .1 .1 .0))
 among c k l h =

@@ -1,4 +1,4 @@
--- `medians::middle::difference` meets its contract. The loop's invariant: the first i differences are written. Assumes nothing.
+-- `medians::middle::difference` meets its contract. The loop's invariant: the first `i` differences are written. Assumes nothing.
 use mathlib.Core.Path.{_≡_, refl, ap, _∙_}
 use Prim.Native.Nat.{_≤_, _-_, _+_}
 use native.Mathlib.Omega.{arith}

@@ -1,4 +1,4 @@
--- `medians::middle::median_difference` meets its contract, whether the run fits or not. Assumes nothing.
+-- `medians::middle::median_difference` meets its contract, whether `run` fits or not. Assumes nothing.
 use mathlib.Core.Path.{_∙_, sym}
 use borrow.Author.Needs.{needs}
 use Rattle.floats.proofs.Order.Zero.{zero-by-zero}

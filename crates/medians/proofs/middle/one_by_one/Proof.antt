@@ -1,7 +1,7 @@
 -- `medians::middle::one_by_one` meets its contract. Assumes nothing.
 use mathlib.Core.Path.{ap, _∙_}
 use borrow.Author.Needs.{needs}
-use Rattle.medians.specs.Ranks.{rankedOf}
+use Rattle.medians.specs.Inner.Ranks.{rankedOf}
 use Rattle.medians.proofs.middle.one_by_one.Statement.{statement}
 use Rattle.medians.proofs.middle.one_by_one.Tie as tie
 

@@ -1,4 +1,4 @@
--- `medians::middle::within_bracket` meets its contract: where the bracket has many values, they are one. Assumes nothing.
+-- `medians::middle::within_bracket` meets its contract: where the bracket has more than 64 values, they are one value. Assumes nothing.
 use mathlib.Core.Path.{_∙_}
 use native.Mathlib.Omega.{arith}
 use native.Mathlib.Nat.{le-refl}

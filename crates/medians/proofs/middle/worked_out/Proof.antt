@@ -1,11 +1,11 @@
--- `medians::middle::worked_out` meets its contract: the middle values are those of the differences, and the run is cleared. Assumes nothing.
+-- `medians::middle::worked_out` meets its contract: the middle values are those of the differences, and `run` is cleared. Assumes nothing.
 use Prim.Native.Nat.{ℕ}
 use mathlib.Core.Path.{ap, _∙_}
 use lib.ListN.{length, replicate}
 use lib.Ieee.{ofBits}
 use Rattle.floats.specs.Numbers.{+0, ratio}
 use Rattle.areas.proofs.ClearedLaws.{cleared-whole}
-use Rattle.medians.specs.Ranks.{middlesOf}
+use Rattle.medians.specs.Inner.Ranks.{middlesOf}
 use Rattle.medians.proofs.MedianLaws.{differences-ready, odd-median, even-median}
 use Rattle.medians.proofs.middle.worked_out.Statement.{statement}
 use Rattle.medians.proofs.middle.worked_out.Tie as tie

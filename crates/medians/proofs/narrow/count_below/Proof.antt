@@ -1,12 +1,12 @@
--- `medians::narrow::count_below` meets its contract: it counts the values before a place. Assumes nothing.
+-- `medians::narrow::count_below` meets its contract. The loop's invariant: the values before the index `i` are counted. Assumes nothing.
 use mathlib.Core.Path.{_≡_, refl}
 use Prim.Native.Nat.{_-_, _≤_}
 use native.Mathlib.Omega.{arith}
 use borrow.Author.Needs.{needs}
 use lib.ListN.{length, take}
 use lib.Ieee.{Float, lt}
-use Rattle.medians.specs.Ranks as Ranks
-use Rattle.medians.specs.Ranks.{count}
+use Rattle.medians.specs.Inner.Ranks as Ranks
+use Rattle.medians.specs.Inner.Ranks.{count}
 use Rattle.medians.proofs.CountLaws.{counted-in, counted-out, counted-all}
 use Rattle.medians.proofs.narrow.count_below.Statement.{statement}
 use Rattle.medians.proofs.narrow.count_below.Tie as tie

@@ -5,8 +5,8 @@ use native.Mathlib.Omega.{arith}
 use borrow.Author.Needs.{needs}
 use lib.Dec.{ltb}
 use borrow.Author.Tests.{ltb-true}
-use Rattle.medians.proofs.RankLaws.{both-parts}
-use Rattle.medians.specs.Ranks.{Around}
+use Rattle.logic.proofs.Laws.{both}
+use Rattle.medians.specs.Inner.Ranks.{Around}
 use Rattle.medians.proofs.narrow.narrowed.Statement.{statement}
 use Rattle.medians.proofs.narrow.narrowed.Tie as tie
 
@@ -31,7 +31,7 @@ add-split c = search needs
 split-requires : tie.Need-split-requires Inv-loop μ-loop
 split-requires c κs =
     let b = c .before .before .before .before .loop .b in
-    let w = both-parts (ltb (c .before .before .before .before .before .before .args .patterns) (b .high - b .low)) _ (sym (c .before .before .before .is-wide .ensures) ∙ c .before .before .if1 .taken) in
+    let w = both (ltb (c .before .before .before .before .before .before .args .patterns) (b .high - b .low)) _ (sym (c .before .before .before .is-wide .ensures) ∙ c .before .before .if1 .taken) in
     let h : c .before .before .before .before .before .before .args .patterns < b .high - b .low = ltb-true _ _ (w .0) in
     (c .before .before .before .before .loop .inv, omega (arith, h, c .before .before .before .before .before .before .pre .1), omega (arith, h, c .before .before .before .before .before .before .pre .1))
 

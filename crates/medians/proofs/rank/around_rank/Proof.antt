@@ -1,4 +1,4 @@
--- `medians::rank::around_rank` ends: what is narrowed is a bracket around the place. Assumes nothing.
+-- `medians::rank::around_rank` ends: what is narrowed is a bracket around the value of the rank `place`. Assumes nothing.
 use mathlib.Core.Path.{_∙_}
 use native.Mathlib.Omega.{arith}
 use borrow.Author.Needs.{needs}

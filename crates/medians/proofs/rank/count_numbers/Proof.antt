@@ -1,12 +1,12 @@
--- `medians::rank::count_numbers` meets its contract: it counts the values before a place. Assumes nothing.
+-- `medians::rank::count_numbers` meets its contract. The loop's invariant: the values before the index `i` are counted. Assumes nothing.
 use mathlib.Core.Path.{_≡_, refl}
 use Prim.Native.Nat.{_-_, _≤_}
 use native.Mathlib.Omega.{arith}
 use borrow.Author.Needs.{needs}
 use lib.ListN.{length, take}
 use lib.Ieee.{Float, eq}
-use Rattle.medians.specs.Ranks as Ranks
-use Rattle.medians.specs.Ranks.{count}
+use Rattle.medians.specs.Inner.Ranks as Ranks
+use Rattle.medians.specs.Inner.Ranks.{count}
 use Rattle.medians.proofs.CountLaws.{counted-in, counted-out, counted-all}
 use Rattle.medians.proofs.rank.count_numbers.Statement.{statement}
 use Rattle.medians.proofs.rank.count_numbers.Tie as tie

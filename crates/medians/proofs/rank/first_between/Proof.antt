@@ -1,4 +1,4 @@
--- `medians::rank::first_between` meets its contract: it reads within the run. Assumes nothing.
+-- `medians::rank::first_between` reads within `run`. Assumes nothing.
 use Prim.Native.Nat.{_≤_, _-_}
 use lib.ListN.{length}
 use borrow.Author.Needs.{needs}

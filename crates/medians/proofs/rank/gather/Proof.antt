@@ -1,4 +1,4 @@
--- `medians::rank::gather` meets its contract: the part begins with the values that were kept so far. Assumes nothing.
+-- `medians::rank::gather` meets its contract. The loop's invariant: `part` begins with the values between `low` and `high` before the index `i`. Assumes nothing.
 use mathlib.Core.Path.{_≡_, refl, sym, ap, _∙_}
 use Prim.Native.Nat.{ℕ, _≤_, _<_, _-_}
 use native.Mathlib.Omega.{arith}
@@ -12,7 +12,7 @@ use mathlib.Core.Bool.{true}
 use Rattle.medians.proofs.MedianLaws.{front-more}
 use Rattle.medians.proofs.KeptLaws.{kept-length, gathered-in, gathered-out}
 use Rattle.medians.proofs.CountLaws.{counted-in, counted-out, counted-all, count-front}
-use Rattle.medians.specs.Ranks.{count, inBracket, passing}
+use Rattle.medians.specs.Inner.Ranks.{count, inBracket, passing}
 use Rattle.medians.proofs.rank.gather.Statement.{statement}
 use Rattle.medians.proofs.rank.gather.Tie as tie
 

@@ -1,4 +1,4 @@
--- `medians::rank::ranked` meets its contract: a bracket of one pattern is the value's. Assumes nothing.
+-- `medians::rank::ranked` meets its contract: a bracket of one pattern is that of the value. Assumes nothing.
 use mathlib.Core.Path.{_∙_}
 use native.Mathlib.Omega.{arith}
 use lib.Ieee.{nanBits, ofBits, div}

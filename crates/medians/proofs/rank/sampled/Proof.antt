@@ -1,8 +1,8 @@
--- `medians::rank::sampled` meets its contract: whatever is tried, the bracket stays one around the place. Assumes nothing.
+-- `medians::rank::sampled` meets its contract: whatever is tried, the bracket stays one around the value of the rank `place`. Assumes nothing.
 use mathlib.Core.Path.{sym}
 use borrow.Author.Needs.{needs}
 use denote.Ref.{now}
-use Rattle.medians.specs.Ranks.{magnitude}
+use Rattle.medians.specs.Inner.Ranks.{magnitude}
 use Rattle.medians.proofs.KeptLaws.{front-length, front-each}
 use Rattle.medians.proofs.rank.sampled.Statement.{statement}
 use Rattle.medians.proofs.rank.sampled.Tie as tie

@@ -1,4 +1,4 @@
--- `noise::variance::add_noise` meets its contract. The loop's invariant: the sum of the first k channels, and the area as the loop found it. Assumes nothing.
+-- `noise::variance::add_noise` meets its contract. The loop's invariant: the sum of the first `k` channels, and the area as the loop found it. Assumes nothing.
 use mathlib.Core.Path.{_≡_, refl, ap, _∙_}
 use Prim.Native.Nat.{_≤_, _-_}
 use native.Mathlib.Omega.{arith}
@@ -18,7 +18,7 @@ Inv-loop run n channels area₀ place sum₀ k₀ area sum k = (k ≤ channels) 
 abbrev μ-loop : tie.MeasureT-loop
 μ-loop run n channels area₀ place sum₀ k₀ area sum k = channels - k
 
--- the area as the loop finds it
+-- the area as the loop finds it, with its part cleared
 emptied : (c : tie.After-slice-known2 Inv-loop μ-loop) → let a = c .before .before .before .before .before .before .before .args in c .before .before .clear-floats .last .0 ≡ cleared (now (a .area)) (a .n) (a .place)
 emptied c =
     place-cleared _ _ _ _ _ (has-room _ _ _ (c .before .before .before .before .before .before .before .pre)) (c .before .before .before .steps .ensures) (c .before .before .clear-floats .ensures)

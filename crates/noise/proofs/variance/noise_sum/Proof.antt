@@ -1,4 +1,4 @@
--- `noise::variance::noise_sum` meets its contract. With room and without. Assumes nothing.
+-- `noise::variance::noise_sum` meets its contract, with room and without. Assumes nothing.
 use mathlib.Core.Path.{sym, _∙_}
 use borrow.Author.Needs.{needs}
 use Rattle.noise.proofs.variance.noise_sum.Statement.{statement}

@@ -1,4 +1,4 @@
--- `noise::variance::noise_variance` meets its contract. With room and without. Assumes nothing.
+-- `noise::variance::noise_variance` meets its contract, with room and without. Assumes nothing.
 use mathlib.Core.Path.{_≡_, sym, ap, _∙_}
 use Prim.Native.Nat.{_-_, _+_}
 use native.Mathlib.Omega.{arith}

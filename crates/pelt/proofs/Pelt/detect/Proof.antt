@@ -1,3 +1,4 @@
+-- `pelt::Pelt::detect` meets its contract: it is `detect_multi` with one length. Assumes nothing.
 use borrow.Author.Needs.{needs}
 use Rattle.pelt.proofs.Pelt.detect.Statement.{statement}
 use Rattle.pelt.proofs.Pelt.detect.Tie as tie

@@ -1,3 +1,4 @@
+-- `pelt::Pelt::detect_multi` meets its contract: it is `find_cuts` with the settings. Assumes nothing.
 use Rattle.pelt.proofs.Pelt.detect_multi.Statement.{statement}
 use Rattle.pelt.proofs.Pelt.detect_multi.Tie as tie
 

@@ -1,3 +1,4 @@
+-- `pelt::Pelt::detect_multi_strict` meets its contract: it is the strict `find_cuts` with the settings. Assumes nothing.
 use Rattle.pelt.proofs.Pelt.detect_multi_strict.Statement.{statement}
 use Rattle.pelt.proofs.Pelt.detect_multi_strict.Tie as tie
 

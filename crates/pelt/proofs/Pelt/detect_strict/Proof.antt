@@ -1,3 +1,4 @@
+-- `pelt::Pelt::detect_strict` meets its contract: it is `detect_multi_strict` with one length. Assumes nothing.
 use borrow.Author.Needs.{needs}
 use Rattle.pelt.proofs.Pelt.detect_strict.Statement.{statement}
 use Rattle.pelt.proofs.Pelt.detect_strict.Tie as tie

@@ -1,3 +1,4 @@
+-- `pelt::Pelt::takes_functional` meets its contract. Assumes nothing.
 use mathlib.Core.Path.{sym, ap}
 use borrow.Author.Needs.{needs}
 use Rattle.pelt.proofs.Pelt.takes_functional.Statement.{statement}

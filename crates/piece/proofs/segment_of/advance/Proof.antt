@@ -1,3 +1,4 @@
+-- `piece::segment_of::advance` meets its contract. The loop's invariant: the sums of the first `i` readings. Assumes nothing.
 use mathlib.Core.Path.{_≡_, refl, ap}
 use Prim.Native.Nat.{_≤_, _-_}
 use native.Mathlib.Omega.{arith}
@@ -8,8 +9,8 @@ use Rattle.piece.proofs.segment_of.advance.Reads as reads
 use Rattle.piece.proofs.segment_of.advance.Lts as lts
 use Rattle.sums.specs.Sums.{centredTo, squaresTo}
 use Rattle.sums.proofs.SumLaws.{centred-more, squares-more}
-use Rattle.piece.specs.declared.Running.{Running}
-use Rattle.piece.specs.Piece.{runningAt}
+use Rattle.piece.specs.declared.segment_of.Running.{Running}
+use Rattle.piece.specs.Inner.Running.{runningAt}
 
 abbrev Inv-loop : tie.InvT-loop
 Inv-loop channel mean from to sum₀ sum-of-squares₀ i₀ sum sum-of-squares i = (i ≤ to) × (sum ≡ centredTo channel mean i) × (sum-of-squares ≡ squaresTo channel mean i)

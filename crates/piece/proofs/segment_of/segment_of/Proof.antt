@@ -1,5 +1,5 @@
+-- `piece::segment_of::segment_of` meets its contract: by the sums before the piece and at its end. Assumes nothing.
 use mathlib.Core.Path.{refl}
-use Prim.Native.Nat.{_-_}
 use native.Mathlib.Omega.{arith}
 use borrow.Author.Needs.{needs}
 use Rattle.piece.proofs.segment_of.segment_of.Statement.{statement}
@@ -10,7 +10,7 @@ use Rattle.piece.proofs.segment_of.advance.Reads as advance-reads
 use Rattle.std.proofs.num.nearest_u64_to_f64.Reads as nearest-u64-to-f64-reads
 use lib.Ieee.{ofBits}
 use Rattle.sums.specs.Sums.{centredTo, squaresTo}
-use Rattle.piece.specs.Piece.{runningAt}
+use Rattle.piece.specs.Inner.Running.{runningAt}
 use Rattle.piece.proofs.PieceLaws.{segment-between}
 
 advance-requires : tie.Need-advance-requires

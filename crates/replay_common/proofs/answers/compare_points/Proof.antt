@@ -1,4 +1,4 @@
--- `replay_common::answers::compare_points` is safe and ends: it reads each of the 4,097 places once. Assumes nothing.
+-- `replay_common::answers::compare_points` is safe and ends: it reads each of the 4,097 indices once. Assumes nothing.
 use Prim.Native.Nat.{_≤_, _-_}
 use borrow.Author.Needs.{needs}
 use Rattle.replay_common.proofs.answers.compare_points.Statement.{statement}

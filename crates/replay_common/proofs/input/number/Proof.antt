@@ -1,4 +1,4 @@
--- `replay_common::input::number` is safe and ends: it reads bytes from `start` on, and the last is within the 33. Assumes nothing.
+-- `replay_common::input::number` is safe and ends: the last byte that it reads is within the 33. Assumes nothing.
 use Prim.Native.Nat.{_+_, _≤_, _-_}
 use native.Mathlib.Omega.{arith}
 use Rattle.replay_common.proofs.input.number.Statement.{statement}

@@ -11,16 +11,16 @@ use contract.Running.{givenOf, tables, tablesOf}
 use denote.Struct.Laws as SL
 use denote.Triple.Spec.{tripleOf}
 use denote.Triple.Table.{entered, cited}
-use Rattle.charts.specs.Answers.{countOf}
-use Rattle.charts.specs.declared.Charted.{Charted}
+use Rattle.refusals.specs.Tried.{countOf}
+use Rattle.refusals.specs.declared.Answer.{Answer}
 use Rattle.charts.proofs.Plain.{Kind, Good, kindOf, rowOf, vals}
 use Rattle.charts.proofs.Loops.{analyzed-is}
-use Rattle.charts.proofs.ChartedKind.{KV, good-v}
+use Rattle.charts.proofs.AnswerKind.{KV, good-v}
 use Rattle.charts.proofs.ByValue.{meets, Analyze}
-use Rattle.ewma.specs.Chart.{accepted, fresh, itself, nextRecord, Analyzed}
+use Rattle.ewma.specs.Chart.{accepted, fresh, itself, nextRecord}
 use Rattle.ewma.specs.declared.EwmaResult.{EwmaResult}
 use Rattle.ewma.proofs.EwmaResult as R
-use Rattle.ewma.proofs.Types.{KC, KR, good-c, good-r}
+use Rattle.ewma.proofs.Types.{Outcome, KC, KR, good-c, good-r}
 use Rattle.ewma.proofs.Ewma.analyze.Symbol as analyze-def
 use Rattle.ewma.proofs.Ewma.analyze.Met as analyze-thm
 use Rattle.replay_ewma.specs.declared.lend.LentTwo.{LentTwo}
@@ -38,10 +38,10 @@ KL = kindOf L.the-row L′.mir (SL.val L.the-type L′.the-laws)
 good-l : Good KL
 good-l = record { tells = SL.tells L.the-type L′.the-laws; makes = λ 𝓤 H A W. SL.makes L.the-type L′.the-plain 𝓤 H A; lawful = SL.lawful L.the-type L′.the-laws }
 
-abbrev mk : Charted → List EwmaResult → LentTwo
+abbrev mk : Answer → List EwmaResult → LentTwo
 mk v ys = record { answer = v; records = ys }
 
-owes : (v : Charted) (ys : List EwmaResult) → Is (rowOf KV) v (vals KV v) → Is (Array (rowOf KR) 2) ys (arrayVal (map (λ y. KR .val y) ys) ∷ [])
+owes : (v : Answer) (ys : List EwmaResult) → Is (rowOf KV) v (vals KV v) → Is (Array (rowOf KR) 2) ys (arrayVal (map (λ y. KR .val y) ys) ∷ [])
     → Is (rowOf KL) (mk v ys) (vstruct (vcons (KV .val v) (vcons (arrayVal (map (λ y. KR .val y) ys)) vnil)) ∷ [])
 owes v ys is is′ = ((vals KV v, (arrayVal (map (λ y. KR .val y) ys) ∷ [], tt)), (refl, (is, ((is′ .0, ((is′ .1 .0 .0, length-map ys (R.the-field .into) ∙ is′ .1 .0 .1), as-field ys (is′ .0) (is′ .1 .1))), tt))))
 
@@ -50,6 +50,6 @@ unfolding code.routine tablesOf
 lend-two-spec 𝓤 H 𝓜 𝓖 𝓡 =
     entered 𝓤 H (tripleOf 𝓤 H (𝓖 .A) lend-two.signature (lend-two.spec 𝓤 H (𝓖 .A) (𝓜 .mem) (𝓡 .run)))
     (tables 𝓤 H 𝓜 𝓡 code.env .C) (tables 𝓤 H 𝓜 𝓡 code.env .Λ) #lend-two code.function (code.unfolded 𝓤 H 𝓜 𝓡)
-    (meets KC KR KV KR KL (R.struct .name) tnil 2 𝓤 judgeOf countOf itself fresh nextRecord Analyzed H (𝓖 .A) good-c good-r good-v good-l (analyzed-is itself fresh nextRecord accepted) mk owes (lit< tt, lit< tt)
+    (meets KC KR KV KR KL (R.struct .name) tnil 2 𝓤 judgeOf countOf itself fresh nextRecord Outcome H (𝓖 .A) good-c good-r good-v good-l (analyzed-is itself fresh nextRecord accepted) mk owes (lit< tt, lit< tt)
     (givenOf 𝓤 H 𝓜 𝓖) analyze-def.name (tablesOf 𝓤 H 𝓜 (tables 𝓤 H 𝓜 𝓡 code.env))
-    (cited 𝓤 H (Analyze KC KR KV KR KL (R.struct .name) tnil 2 𝓤 judgeOf countOf itself fresh nextRecord Analyzed H (𝓖 .A)) 𝓜 𝓡 code.env analyze-def.name analyze-def.routine code.calls-ewma·Ewma·analyze (analyze-thm.met 𝓤 H 𝓜 𝓖 𝓡)))
+    (cited 𝓤 H (Analyze KC KR KV KR KL (R.struct .name) tnil 2 𝓤 judgeOf countOf itself fresh nextRecord Outcome H (𝓖 .A)) 𝓜 𝓡 code.env analyze-def.name analyze-def.routine code.calls-ewma·Ewma·analyze (analyze-thm.met 𝓤 H 𝓜 𝓖 𝓡)))

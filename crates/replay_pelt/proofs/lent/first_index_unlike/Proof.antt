@@ -1,4 +1,4 @@
--- `replay_pelt::lent::first_index_unlike` is safe and ends: it reads each place once. Assumes nothing.
+-- `replay_pelt::lent::first_index_unlike` is safe and ends: it reads each index once. Assumes nothing.
 use Prim.Native.Nat.{_-_}
 use lib.ListN.{length}
 use borrow.Author.Needs.{needs}

@@ -1,4 +1,4 @@
--- `replay_pelt::lent::next_run` is safe and ends: it fills no place twice. Assumes nothing.
+-- `replay_pelt::lent::next_run` is safe and ends: it writes each index of the run at most once. Assumes nothing.
 use mathlib.Core.Path.{_≡_}
 use Prim.Native.Nat.{_≤_, _-_}
 use native.Mathlib.Omega.{arith}

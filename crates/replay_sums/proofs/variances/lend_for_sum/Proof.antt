@@ -1,4 +1,4 @@
--- `replay_sums::variances::lend_for_sum` is safe: what it lends is within its 4,104 places. Assumes nothing.
+-- `replay_sums::variances::lend_for_sum` is safe: what it lends is within its 4,104 floats. Assumes nothing.
 use mathlib.Core.Path.{sym}
 use lib.Seq.{length-take-le}
 use borrow.Author.Needs.{needs}

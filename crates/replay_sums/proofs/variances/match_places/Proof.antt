@@ -1,4 +1,4 @@
--- `replay_sums::variances::match_places` is safe and ends: it reads each place once. Assumes nothing.
+-- `replay_sums::variances::match_places` is safe and ends: it reads each float once. Assumes nothing.
 use Prim.Native.Nat.{_≤_, _-_}
 use lib.ListN.{length}
 use borrow.Author.Needs.{needs}

@@ -1,4 +1,4 @@
--- `replay_sums::variances::next_variance` is safe: what it lends is within its 4,104 places. Assumes nothing.
+-- `replay_sums::variances::next_variance` is safe: what it lends is within its 4,104 floats. Assumes nothing.
 use mathlib.Core.Path.{sym}
 use native.Mathlib.Omega.{arith}
 use lib.Seq.{length-take-le}

@@ -1,4 +1,4 @@
--- `replay_sums::variances::zeros_of` is safe and ends: it reads each place once, and counts no more than it has read. Assumes nothing.
+-- `replay_sums::variances::zeros_of` is safe and ends: it reads each float once, and counts no more than it has read. Assumes nothing.
 use Prim.Native.Nat.{_≤_, _-_}
 use lib.ListN.{length}
 use borrow.Author.Needs.{needs}

@@ -1,3 +1,4 @@
+-- `search::cuts::by_inequality` meets its contract: by what the inequality search and the walk back leave. Assumes nothing.
 use mathlib.Core.Path.{_∙_}
 use Rattle.search.proofs.cuts.by_inequality.Statement.{statement}
 use Rattle.search.proofs.cuts.by_inequality.Tie as tie
@@ -25,7 +26,7 @@ same-length-4 : tie.Need-same-length-4
 same-length-4 c = c .before .before .before .before .before .before .before .before .before .clear-floats .kept .0
 
 returns : tie.Need-returns
-returns c = pruned-left (c .before .before .before .before .before .before .before .before .before .before .before .before .before .before .before .before .before .before .before .before .before .before .before .pre .0) (c .before .before .before .before .before .before .before .before .before .before .before .before .before .before .before .before .before .before .before .before .before .before .before .pre .1) (c .before .before .before .before .before .before .before .before .before .before .before .before .before .before .before .partition-pruned .ensures) (c .before .before .before .before .before .before .before .before .before .clear-floats .ensures) (c .before .before .before .before .cut-back .ensures)
+returns c = pruned-left _ (c .before .before .before .before .before .before .before .before .before .before .before .before .before .before .before .before .before .before .before .before .before .before .before .pre .0) (c .before .before .before .before .before .before .before .before .before .before .before .before .before .before .before .before .before .before .before .before .before .before .before .pre .1) (c .before .before .before .before .before .before .before .before .before .before .before .before .before .before .before .partition-pruned .ensures) (c .before .before .before .before .before .before .before .before .before .clear-floats .ensures) (c .before .before .before .before .cut-back .ensures)
 
 pub by-inequality-spec : {M : Type 1} → statement M
 by-inequality-spec =

@@ -1,3 +1,4 @@
+-- `search::cuts::cut_back` meets its contract. Assumes nothing.
 use mathlib.Core.Path.{refl}
 use borrow.Author.Needs.{needs}
 use Rattle.search.proofs.cuts.cut_back.Statement.{statement}

@@ -1,3 +1,4 @@
+-- `search::cuts::no_cuts` meets its contract. Assumes nothing.
 use mathlib.Core.Path.{refl}
 use Rattle.search.proofs.cuts.no_cuts.Statement.{statement}
 use Rattle.search.proofs.cuts.no_cuts.Tie as tie

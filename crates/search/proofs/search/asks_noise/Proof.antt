@@ -1,8 +1,9 @@
+-- `search::search::asks_noise` meets its contract. Assumes nothing.
 use mathlib.Core.Path.{sym, ap, ap₂}
 use borrow.Author.Needs.{needs}
 use Rattle.search.proofs.search.asks_noise.Statement.{statement}
 use Rattle.search.proofs.search.asks_noise.Tie as tie
-use Rattle.search.specs.Held.{asksNoise}
+use Rattle.search.specs.Inner.Held.{asksNoise}
 
 enum-told : tie.Need-enum-told
 enum-told c = search needs

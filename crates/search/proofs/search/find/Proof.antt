@@ -1,4 +1,5 @@
-use mathlib.Core.Path.{refl, sym, ap, _∙_}
+-- `search::search::find` meets its contract: each way out by the tests that led to it. Assumes nothing.
+use mathlib.Core.Path.{sym, ap, _∙_}
 use Prim.Native.Nat.{ℕ}
 use native.Mathlib.Omega.{arith}
 use lib.Ieee.{Float, ofBits}
@@ -21,7 +22,7 @@ same-length-3 : tie.Need-same-length-3
 same-length-3 c = c .before .before .before .before .before .before .no-cuts .kept .1 .1 .0
 
 returns : tie.Need-returns
-returns c = let e = c .before .before .before .before .before .before .no-cuts .ensures in left-found (short-found _ _ _ _ _ _ _ (c .before .before .before .before .before .before .before .before .before .before .if1 .taken)) (left-none (e .0) refl (e .1) (e .2) (e .3))
+returns c = let e = c .before .before .before .before .before .before .no-cuts .ensures in left-found _ (short-found _ _ _ _ _ _ _ (c .before .before .before .before .before .before .before .before .before .before .if1 .taken)) (left-none _ (e .0) (e .1) (e .2) (e .3))
 
 penalty-value-requires : tie.Need-penalty-value-requires
 penalty-value-requires c κs = (c .before .before .before .before .before .before .before .pre .short, c .before .before .before .before .before .before .before .pre .few, c .before .before .before .before .before .before .before .pre .floats-room)
@@ -40,7 +41,7 @@ same-length-6 c = c .before .before .before .before .before .before .no-cuts2 .k
 
 returns-2 : tie.Need-returns-2
 unfolding ofBits
-returns-2 c = let e = c .before .before .before .before .before .before .no-cuts2 .ensures in let v = c .before .before .before .before .before .before .before .before .before .before .before .before .before .penalty-value .ensures in left-found (free-found _ _ _ _ _ _ _ (c .before .before .before .before .before .before .before .before .before .before .before .before .before .before .before .if1 .left) (ap (λ (x : Float). x ≤ᶠ +0) (sym (v .0)) ∙ c .before .before .before .before .before .before .before .before .before .before .if2 .taken)) (left-none (e .0) refl (e .1 ∙ ap (λ (k : ℕ). replicate k +0) (v .1)) (e .2) (e .3))
+returns-2 c = let e = c .before .before .before .before .before .before .no-cuts2 .ensures in let v = c .before .before .before .before .before .before .before .before .before .before .before .before .before .penalty-value .ensures in left-found _ (free-found _ _ _ _ _ _ _ (c .before .before .before .before .before .before .before .before .before .before .before .before .before .before .before .if1 .left) (ap (λ (x : Float). x ≤ᶠ +0) (sym (v .0)) ∙ c .before .before .before .before .before .before .before .before .before .before .if2 .taken)) (left-none _ (e .0) (e .1 ∙ ap (λ (k : ℕ). replicate k +0) (v .1)) (e .2) (e .3))
 
 takes-functional-requires : tie.Need-takes-functional-requires
 takes-functional-requires c κs = tt
@@ -62,7 +63,7 @@ same-length-10 c = c .before .before .before .before .before .before .before .be
 
 returns-3 : tie.Need-returns-3
 unfolding ofBits
-returns-3 c = let v = c .before .before .before .before .before .before .before .before .before .before .before .before .before .before .before .before .before .before .penalty-value .ensures in left-found (functional-found _ _ _ _ _ _ _ _ (c .before .before .before .before .before .before .before .before .before .before .before .before .before .before .before .before .before .before .before .before .if1 .left) (v .0) (c .before .before .before .before .before .before .before .before .before .before .before .before .before .before .before .if2 .left) (sym (c .before .before .before .before .before .before .before .before .before .before .before .before .before .before .takes-functional .ensures) ∙ c .before .before .before .before .before .before .before .before .before .before .before .before .before .if3 .taken)) (left-again (v .1) (c .before .before .before .before .before .before .before .before .by-functional .ensures))
+returns-3 c = let v = c .before .before .before .before .before .before .before .before .before .before .before .before .before .before .before .before .before .before .penalty-value .ensures in left-found _ (functional-found _ _ _ _ _ _ _ _ (c .before .before .before .before .before .before .before .before .before .before .before .before .before .before .before .before .before .before .before .before .if1 .left) (v .0) (c .before .before .before .before .before .before .before .before .before .before .before .before .before .before .before .if2 .left) (sym (c .before .before .before .before .before .before .before .before .before .before .before .before .before .before .takes-functional .ensures) ∙ c .before .before .before .before .before .before .before .before .before .before .before .before .before .if3 .taken)) (left-again _ _ _ _ _ _ (v .1) (c .before .before .before .before .before .before .before .before .by-functional .ensures))
 
 by-inequality-requires : tie.Need-by-inequality-requires
 by-inequality-requires c κs = let v = c .before .before .before .before .before .before .before .before .before .penalty-value .ensures in let a = c .before .before .before .before .before .before .before .before .before .before .before .before .before .before .before .before .before .pre in let h = c .before .before .before .before .before .before .before .before .before .before .before .if1 .left in (rw (v .1) a, omega (arith, h))
@@ -81,7 +82,7 @@ same-length-14 c = c .before .before .before .before .before .before .before .be
 
 returns-4 : tie.Need-returns-4
 unfolding ofBits
-returns-4 c = let v = c .before .before .before .before .before .before .before .before .before .before .before .before .before .before .before .before .before .before .penalty-value .ensures in left-found (pruned-found _ _ _ _ _ _ _ _ (c .before .before .before .before .before .before .before .before .before .before .before .before .before .before .before .before .before .before .before .before .if1 .left) (v .0) (c .before .before .before .before .before .before .before .before .before .before .before .before .before .before .before .if2 .left) (sym (c .before .before .before .before .before .before .before .before .before .before .before .before .before .before .takes-functional .ensures) ∙ c .before .before .before .before .before .before .before .before .before .before .before .before .before .if3 .left)) (left-again (v .1) (c .before .before .before .before .before .before .before .before .by-inequality .ensures))
+returns-4 c = let v = c .before .before .before .before .before .before .before .before .before .before .before .before .before .before .before .before .before .before .penalty-value .ensures in left-found _ (pruned-found _ _ _ _ _ _ _ _ (c .before .before .before .before .before .before .before .before .before .before .before .before .before .before .before .before .before .before .before .before .if1 .left) (v .0) (c .before .before .before .before .before .before .before .before .before .before .before .before .before .before .before .if2 .left) (sym (c .before .before .before .before .before .before .before .before .before .before .before .before .before .before .takes-functional .ensures) ∙ c .before .before .before .before .before .before .before .before .before .before .before .before .before .if3 .left)) (left-again _ _ _ _ _ _ (v .1) (c .before .before .before .before .before .before .before .before .by-inequality .ensures))
 
 pub find-spec : {M : Type 1} → statement M
 find-spec =

@@ -1,5 +1,8 @@
+-- `search::search::find_cuts` meets its contract: by what `admitted` answers. Assumes nothing.
 use mathlib.Core.Path.{sym, _∙_}
 use borrow.Author.Needs.{needs}
+use denote.Ref.{now}
+use Rattle.search_answer.specs.Outcome.{Areas, areas}
 use Rattle.search.proofs.search.find_cuts.Statement.{statement}
 use Rattle.search.proofs.search.find_cuts.Tie as tie
 use Rattle.search_answer.proofs.AdmissionLaws.{admitted-fits}
@@ -18,7 +21,7 @@ find-requires : tie.Need-find-requires
 find-requires c κs = admitted-fits _ _ _ _ _ _ _ _ (sym (c .before .before .before .before .before .before .before .admitted .ensures) ∙ c .before .before .before .before .before .answer2 .given .1)
 
 returns : tie.Need-returns
-returns c = detected-refused _ _ _ _ _ _ (sym (c .before .before .before .admitted .ensures) ∙ c .before .answer .given .1)
+returns c = detected-refused _ _ _ _ _ _ _ (sym (c .before .before .before .admitted .ensures) ∙ c .before .answer .given .1)
 
 same-length : tie.Need-same-length
 same-length c = c .before .before .before .before .before .before .before .before .find .kept .1 .1 .1 .1 .1 .1 .0
@@ -33,7 +36,12 @@ same-length-4 : tie.Need-same-length-4
 same-length-4 c = c .before .before .before .before .before .before .before .before .find .kept .1 .1 .1 .1 .1 .1 .1 .1 .1 .0
 
 returns-2 : tie.Need-returns-2
-returns-2 c = detected-found _ _ _ _ _ _ (sym (c .before .before .before .before .before .before .before .before .before .before .before .before .before .before .before .before .admitted .ensures) ∙ c .before .before .before .before .before .before .before .before .before .before .before .before .before .before .answer2 .given .1) (c .before .before .before .before .before .before .before .before .find .ensures)
+returns-2 c =
+    let found = c .before .before .before .before .before .before .before .before in
+    let asked = found .before .before .before .before .before .before .before .before in
+    let a = asked .before .before .before .before .before .before .before .args in
+    let before : Areas = areas (now (a .cuts)) (now (a .floats)) (now (a .indices)) (now (a .pool)) in
+    detected-found _ _ _ _ _ _ before (sym (asked .admitted .ensures) ∙ found .before .before .before .before .before .before .answer2 .given .1) (found .find .ensures)
 
 pub find-cuts-spec : {M : Type 1} → statement M
 find-cuts-spec =

@@ -1,3 +1,4 @@
+-- `search::search::penalty_value` meets its contract: the noise is worked out only where the penalty asks for it. Assumes nothing.
 use mathlib.Core.Path.{refl, sym, _∙_}
 use native.Mathlib.Omega.{arith}
 use borrow.Author.Needs.{needs}

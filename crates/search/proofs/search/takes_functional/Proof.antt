@@ -1,3 +1,4 @@
+-- `search::search::takes_functional` meets its contract. Assumes nothing.
 use mathlib.Core.Path.{sym, ap}
 use borrow.Author.Needs.{needs}
 use Rattle.search.proofs.search.takes_functional.Statement.{statement}

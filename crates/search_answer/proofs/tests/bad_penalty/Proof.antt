@@ -1,3 +1,4 @@
+-- `search_answer::tests::bad_penalty` meets its contract. Assumes nothing.
 use mathlib.Core.Path.{sym, ap}
 use borrow.Author.Needs.{needs}
 use Rattle.search_answer.proofs.tests.bad_penalty.Statement.{statement}

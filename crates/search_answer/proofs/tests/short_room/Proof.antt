@@ -1,3 +1,4 @@
+-- `search_answer::tests::short_room` meets its contract. Assumes nothing.
 use mathlib.Core.Path.{refl}
 use native.Mathlib.Omega.{arith}
 use borrow.Author.Needs.{needs}
@@ -5,6 +6,7 @@ use Rattle.search_answer.proofs.tests.short_room.Statement.{statement}
 use Rattle.search_answer.proofs.tests.short_room.Tie as tie
 use Rattle.search_rules.proofs.RoomLaws.{floats-small}
 use Rattle.search_answer.specs.Tests.{shortRoom}
+use Rattle.search_rules.specs.Room.{roomFits}
 
 add-w : tie.Need-add-w
 add-w c = search needs
@@ -22,7 +24,7 @@ mul-result-3 : tie.Need-mul-result-3
 mul-result-3 c = search needs
 
 returns : tie.Need-returns
-unfolding shortRoom
+unfolding shortRoom roomFits
 returns c = refl
 
 pub short-room-spec : {M : Type 1} → statement M

@@ -1,4 +1,4 @@
-use Prim.Native.Nat.{_-_}
+-- `search_rules::minimum::better` meets its contract, by the test. Assumes nothing.
 use Rattle.search_rules.proofs.minimum.better.Statement.{statement}
 use Rattle.search_rules.proofs.minimum.better.Tie as tie
 use Rattle.search_rules.specs.Minimum.{betterOf}

@@ -1,5 +1,5 @@
+-- `search_rules::minimum::none_yet` meets its contract. Assumes nothing.
 use mathlib.Core.Path.{refl}
-use Prim.Native.Nat.{_-_}
 use Rattle.search_rules.proofs.minimum.none_yet.Statement.{statement}
 use Rattle.search_rules.proofs.minimum.none_yet.Tie as tie
 use lib.Ieee.{nanBits, ofBits}

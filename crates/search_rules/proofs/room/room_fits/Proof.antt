@@ -1,4 +1,4 @@
-use Prim.Native.Nat.{_-_}
+-- `search_rules::room::room_fits` meets its contract: no product wraps. Assumes nothing.
 use native.Mathlib.Omega.{arith}
 use borrow.Author.Needs.{needs}
 use Rattle.search_rules.proofs.room.room_fits.Statement.{statement}

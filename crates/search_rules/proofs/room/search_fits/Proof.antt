@@ -1,5 +1,5 @@
+-- `search_rules::room::search_fits` meets its contract. Assumes nothing.
 use mathlib.Core.Path.{sym, _∙_}
-use Prim.Native.Nat.{_-_}
 use borrow.Author.Needs.{needs}
 use Rattle.search_rules.proofs.room.search_fits.Statement.{statement}
 use Rattle.search_rules.proofs.room.search_fits.Tie as tie

@@ -1,4 +1,4 @@
-use Prim.Native.Nat.{_-_}
+-- `search_rules::room::series_fits` meets its contract: no product wraps. Assumes nothing.
 use native.Mathlib.Omega.{arith}
 use Rattle.search_rules.proofs.room.series_fits.Statement.{statement}
 use Rattle.search_rules.proofs.room.series_fits.Tie as tie

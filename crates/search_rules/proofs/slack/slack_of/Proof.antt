@@ -1,5 +1,5 @@
+-- `search_rules::slack::slack_of` meets its contract. Assumes nothing.
 use mathlib.Core.Path.{refl}
-use Prim.Native.Nat.{_-_}
 use borrow.Author.Needs.{needs}
 use Rattle.search_rules.proofs.slack.slack_of.Statement.{statement}
 use Rattle.search_rules.proofs.slack.slack_of.Tie as tie

@@ -1,4 +1,4 @@
-use Prim.Native.Nat.{_-_}
+-- `sums::channels::about_its_mean` meets its contract. Assumes nothing.
 use borrow.Author.Needs.{needs}
 use Rattle.sums.proofs.channels.about_its_mean.Statement.{statement}
 use Rattle.sums.proofs.channels.about_its_mean.Tie as tie

@@ -1,3 +1,4 @@
+-- `sums::channels::one_after_the_other` meets its contract. The loop's invariant: the sums of the first `c` channels are written, and `place` stands behind them. Assumes nothing.
 use mathlib.Core.Path.{_≡_, refl, sym, ap, _∙_}
 use Prim.Native.Nat.{ℕ, _≤_, _<_, _*_, _-_, _+_}
 use native.Mathlib.Omega.{arith}

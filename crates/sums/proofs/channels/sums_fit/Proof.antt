@@ -1,4 +1,4 @@
-use Prim.Native.Nat.{_-_}
+-- `sums::channels::sums_fit` meets its contract: no product wraps. Assumes nothing.
 use native.Mathlib.Omega.{arith}
 use borrow.Author.Needs.{needs}
 use Rattle.sums.proofs.channels.sums_fit.Statement.{statement}

@@ -1,3 +1,4 @@
+-- `sums::running::run_on` meets its contract. The loop's invariant: the sums of 0 to `i` readings are written. Assumes nothing.
 use mathlib.Core.Path.{_≡_, refl, _∙_}
 use Prim.Native.Nat.{_≤_, _*_, _-_, _+_}
 use native.Mathlib.Omega.{arith}

@@ -1,5 +1,5 @@
+-- `sums::running::two_runs` meets its contract. Assumes nothing.
 use mathlib.Core.Path.{sym}
-use Prim.Native.Nat.{_-_}
 use Rattle.sums.proofs.running.two_runs.Statement.{statement}
 use Rattle.sums.proofs.running.two_runs.Tie as tie
 use Rattle.sums.proofs.running.two_runs.Reads as reads

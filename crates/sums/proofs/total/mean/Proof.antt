@@ -1,3 +1,4 @@
+-- `sums::total::mean` meets its contract. The loop's invariant: `sum` is that of the first `i` readings. Assumes nothing.
 use mathlib.Core.Path.{_≡_, refl}
 use Prim.Native.Nat.{_≤_, _-_}
 use native.Mathlib.Omega.{arith}

@@ -1,3 +1,4 @@
+-- `cuts_input::cursor::Cursor::field` meets its contract: each answer by the tests that led to it. Assumes nothing.
 use mathlib.Core.Path.{refl}
 use native.Mathlib.Omega.{arith}
 use Rattle.cuts_input.proofs.FormLaws.{found-short, found-cut, found-other, found-value}

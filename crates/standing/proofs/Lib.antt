@@ -1,4 +1,0 @@
-pub mod Outcomes
-pub mod Examples
-pub mod AreaLaws
-pub mod StayLaws
