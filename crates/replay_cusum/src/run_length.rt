@@ -10,14 +10,10 @@ use replay_common::number;
 // The kind of a run length.
 const RUN_LENGTH: usize = 5;
 
-// The number of `refusal`, 32 bits higher, and its channel and index below, which for a level are 0 and
-// 0.
+// The number of `refusal`, 32 bits higher, and its values below, which for a level are 0 and 0.
 fn refused(refusal: Refusal) -> u64 {
-    let number = refusal.number() << 32;
-    match refusal {
-        Refusal::NonFinite { channel, index } => number | channel as u64 | index as u64,
-        _ => number,
-    }
+    let values = refusal.values();
+    refusal.number() << 32 | values.first as u64 | values.second as u64
 }
 
 // `answer` as one number: the reading at which the level is heard, or 0, or a refusal.
