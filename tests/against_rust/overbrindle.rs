@@ -571,7 +571,7 @@ pub mod lent {
 
 /// The functions by C's conventions.
 mod c {
-    #[link(name = "desk", kind = "static")]
+    #[link(name = "overbrindle", kind = "static")]
     extern "C" {
         pub fn overbrindle_detect_multi(
             cost: u32,

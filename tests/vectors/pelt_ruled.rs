@@ -2,7 +2,7 @@
 // before it compares them for the narrowest, and notes how many candidates live.
 
 #[allow(dead_code)]
-#[path = "../tests/vectors/rules.rs"]
+#[path = "RULES_RS"]
 mod rules;
 
 use std::sync::atomic::{AtomicBool, AtomicUsize, Ordering::Relaxed};

@@ -1,7 +1,7 @@
 // What follows is appended to a copy of `ewma.rs` in which `sed` puts `rule_powi` for `powi`.
 
 #[allow(dead_code)]
-#[path = "../tests/vectors/rules.rs"]
+#[path = "RULES_RS"]
 mod rules;
 
 trait RulePower {
