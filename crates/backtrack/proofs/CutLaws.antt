@@ -1,4 +1,4 @@
--- Demand 2 of the cuts by sound predecessors: they rise strictly, every piece has at least the minimum length, and an area of n/2 indices is room enough for them. Assumes nothing.
+-- Promise 2 of the cuts by sound predecessors: they rise strictly, every piece has at least the minimum length, and an area of n/2 indices is room enough for them. Assumes nothing.
 use Prim.Native.Nat.{ℕ, zero, suc, _+_, _-_, _*_, _/_, _≤_, _<_}
 use mathlib.Core.Path.{_≡_, refl, sym, ap, _∙_}
 use mathlib.Core.Bool.{Bool, true, false, cond}

@@ -1,4 +1,4 @@
--- What `backtrack` answers, and what it leaves in the lent area. Definitions only.
+-- What `backtrack` answers, and what it leaves in the lent area. Rule 3.17. Definitions only.
 use Prim.Native.Nat.{ℕ}
 use mathlib.Core.Path.{_≡_}
 use mathlib.Core.List.{List}

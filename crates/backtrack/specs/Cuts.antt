@@ -1,4 +1,4 @@
--- The cuts by a list of predecessors. Definitions only.
+-- The cuts by a list of predecessors. Rule 3.17. Definitions only.
 use Prim.Native.Nat.{ℕ, zero, suc}
 use mathlib.Core.Bool.{cond}
 use mathlib.Core.List.{List, [], _∷_, _++_}

@@ -1,4 +1,4 @@
--- What demand 2 says of the cuts of n readings: they rise strictly, and every piece has at least the minimum length. Definitions only.
+-- What promise 2 says of the cuts of n readings: they rise strictly, and every piece has at least the minimum length. Definitions only.
 use Prim.Native.Nat.{ℕ, _+_, _≤_, _<_}
 use mathlib.Core.List.{List, [], _∷_, _++_}
 use lib.ListN.{length, getD}

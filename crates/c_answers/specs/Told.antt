@@ -1,4 +1,4 @@
--- What is told of an answer in plain numbers. Definitions only.
+-- What is told of an answer in plain numbers. Rule 8.2. Definitions only.
 use Prim.Native.Nat.{ℕ}
 use mathlib.Core.Bool.{not, cond}
 use mathlib.Core.List.{List, [], _∷_}

@@ -1,8 +1,8 @@
 // Answers in plain numbers, for programs in other languages: 0 or a refusal's number, and beside it
-// what the answer says.
+// what the answer says (rule 8.2).
 //
 // No function asks anything of its caller. `specs/Told` has what is told of each answer, by what it
-// says in document 01's numbers. A run length, which is numbers alone, is asked here too.
+// says in the rules' numbers. A run length, which is numbers alone, is asked here too.
 mod sides;
 
 ghost use mathlib.Core.Path.{_≡_};

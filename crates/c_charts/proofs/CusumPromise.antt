@@ -1,4 +1,4 @@
--- Demand 3 of what programs in other languages are told: if `overbrindle_cusum_run_length` tells the reading n, then the nth of any next n finite readings at the level or beyond it has a 1 in the array of signals,
+-- Promise 3 of what programs in other languages are told: if `overbrindle_cusum_run_length` tells the reading n, then the nth of any next n finite readings at the level or beyond it has a 1 in the array of signals,
 -- and its index among those that `overbrindle_cusum_signal_points` wrote. Assumes nothing.
 use mathlib.Core.Path.{_≡_, sym, ap, ap₂, _∙_}
 use Prim.Native.Nat.{ℕ, _+_, _<_}

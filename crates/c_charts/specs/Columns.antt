@@ -1,4 +1,4 @@
--- What the arrays of both charts share: the room of the shortest, and a signal as a number. Definitions only.
+-- What the arrays of both charts share: the room of the shortest, and a signal as a number. Rule 8.3. Definitions only.
 use Prim.Native.Nat.{ℕ}
 use mathlib.Core.Bool.{Bool, cond}
 use lib.Dec.{ltb}

@@ -1,4 +1,4 @@
--- The records of a CUSUM chart (001) as arrays: what is told, and what each array holds afterwards. Definitions only.
+-- The records of a CUSUM chart as arrays: what is told, and what each array holds afterwards. Rules 5.3 and 8.3. Definitions only.
 use Prim.Native.Nat.{ℕ}
 use mathlib.Core.List.{List}
 use lib.ListN.{length}

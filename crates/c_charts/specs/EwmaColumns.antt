@@ -1,4 +1,4 @@
--- The records of an EWMA chart (002) as arrays: what is told, and what each array holds afterwards. Definitions only.
+-- The records of an EWMA chart as arrays: what is told, and what each array holds afterwards. Rules 5.4 and 8.3. Definitions only.
 use Prim.Native.Nat.{ℕ}
 use mathlib.Core.List.{List}
 use lib.ListN.{length}

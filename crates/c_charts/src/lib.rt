@@ -1,4 +1,4 @@
-// The records of a chart as arrays, one for each field, for programs in other languages.
+// The records of a chart as arrays, one for each field (rule 8.3), for programs in other languages.
 //
 // No public function asks anything of its caller. `specs/CusumColumns` and `specs/EwmaColumns` say what
 // is told and what every lent array holds afterwards: at its front that field of the records that the

@@ -1,4 +1,4 @@
--- What programs in other languages may rely on of a search: where 0 and a count are told, demand 2 of that many cuts in the front of the area; where 8, a channel and an index are told, that reading is the first that is not finite.
+-- What programs in other languages may rely on of a search: where 0 and a count are told, promise 2 of that many cuts in the front of the area; where 8, a channel and an index are told, that reading is the first that is not finite.
 -- Assumes nothing.
 use mathlib.Core.Path.{_≡_, sym, ap, ap₂}
 use Prim.Native.Nat.{ℕ}
@@ -19,7 +19,7 @@ use Rattle.refusals.proofs.TriedLaws.{no-count}
 use Rattle.readings.specs.Shape.{firstLength}
 use Rattle.readings.specs.FirstGap.{FirstGap}
 use Rattle.search_answer.specs.Outcome.{Areas, outcomeBy, testsOf, foundIn, detected}
-use Rattle.search_answer.specs.Demand.{Cut}
+use Rattle.search_answer.specs.Promise.{Cut}
 use Rattle.search_answer.proofs.CutLaws.{detected-cuts}
 use Rattle.search_answer.proofs.FrontLaws.{detected-count, detected-gap}
 use Rattle.c_answers.specs.declared.Told.{Told}

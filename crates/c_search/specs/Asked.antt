@@ -1,4 +1,4 @@
--- A search in plain numbers: which numbers stand for which settings, and what is told and left. Definitions only.
+-- A search in plain numbers: which numbers stand for which settings, and what is told and left. Rules 8.1 and 8.2. Definitions only.
 use Prim.Native.Nat.{ℕ}
 use mathlib.Core.Bool.{Bool, not, _&&_, cond}
 use mathlib.Core.List.{List, _∷_}

@@ -1,4 +1,4 @@
-// A search that is asked for in plain numbers, for programs in other languages.
+// A search that is asked for in plain numbers (rule 8.1), for programs in other languages.
 //
 // `search` asks nothing of its caller. `specs/Asked` says which numbers stand for which settings;
 // others are refusal 10, which is tried first and changes no area. All else is the search of crate

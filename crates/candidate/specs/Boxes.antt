@@ -1,4 +1,4 @@
--- The box of a candidate, and what a ball leaves of it. Definitions only.
+-- The box of a candidate, and what a ball leaves of it. Rules 3.10 and 3.12. Definitions only.
 use Prim.Native.Nat.{ℕ}
 use mathlib.Core.Bool.{Bool, _||_, cond}
 use mathlib.Core.List.{List, [], _∷_}

@@ -1,4 +1,4 @@
--- What the losing balls cut from the box. Definitions only.
+-- What the losing balls cut from the box. Rule 3.14. Definitions only.
 use Prim.Native.Nat.{ℕ, zero, suc}
 use mathlib.Core.Bool.{cond}
 use mathlib.Core.List.{List}

@@ -1,4 +1,4 @@
--- Whether anything is left of a box. Definitions only.
+-- Whether anything is left of a box. Rule 3.15. Definitions only.
 use Prim.Native.Nat.{ℕ}
 use mathlib.Core.Bool.{Bool, _||_, cond}
 use lib.Dec.{eqb}

@@ -1,4 +1,4 @@
--- Which of the balls in which a candidate loses it keeps. Definitions only.
+-- Which of the balls in which a candidate loses it keeps. Rule 3.13. Definitions only.
 use Prim.Native.Nat.{ℕ, zero, suc}
 use mathlib.Core.Bool.{cond}
 use mathlib.Core.List.{List, [], _∷_, _++_}

@@ -1,6 +1,6 @@
 // `Candidate`, one candidate of the functional search: the box where it can still win. A ball narrows
 // it (`restrict`), the balls in which it loses cut it (`cut_losing`), and it is out once nothing is left
-// of it (`is_dominated`).
+// of it (`is_dominated`): rules 3.10, 3.12, 3.14 and 3.15.
 //
 // No public function asks anything of its caller. The number of channels is 1, and any other counts as
 // 2. Each result is to the bit what the definition says that its contract names: `specs/Boxes` for the

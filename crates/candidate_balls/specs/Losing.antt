@@ -1,4 +1,4 @@
--- The losing balls in an area: three runs of 64, which begin at `place`, of the first numbers of the centres, the second numbers, and the squares of the radii. Definitions only.
+-- The losing balls in an area: three runs of 64, which begin at `place`, of the first numbers of the centres, the second numbers, and the squares of the radii. Rule 3.13. Definitions only.
 use Prim.Native.Nat.{ℕ, zero, suc, _+_, _*_}
 use mathlib.Core.Bool.{Bool, _&&_, cond}
 use mathlib.Core.Path.{_≡_}

@@ -1,6 +1,6 @@
 // `Ball`, and the balls in which a candidate of the functional search loses, as they stand in an area:
 // three runs of 64 floats, one after the other, with the first numbers of the centres, the second
-// numbers, and the squares of the radii. `lose_inside` adds a ball, of which 64 are kept.
+// numbers, and the squares of the radii. `lose_inside` (rule 3.13) adds a ball, of which 64 are kept.
 //
 // No public function asks anything of its caller: where the area has no room for the runs, nothing is
 // done. Each result, and each area afterwards, is to the bit what `specs/Losing` says.

@@ -1,4 +1,4 @@
--- What a ball reaches of a span, and whether anything is left of one. Definitions only.
+-- What a ball reaches of a span, and whether anything is left of one. Rule 3.12. Definitions only.
 use mathlib.Core.Bool.{Bool}
 use lib.Ieee.{Float}
 use Rattle.floats.specs.Numbers.{_+ᶠ_, _-ᶠ_, _<ᶠ_, +0}

@@ -1,4 +1,4 @@
--- What a ball cuts from a span. Definitions only.
+-- What a ball cuts from a span. Rule 3.14. Definitions only.
 use mathlib.Core.Bool.{Bool, _&&_, cond}
 use lib.Ieee.{Float}
 use Rattle.floats.specs.Numbers.{_+ᶠ_, _-ᶠ_, _*ᶠ_, _<ᶠ_, _≤ᶠ_}

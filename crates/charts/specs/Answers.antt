@@ -1,4 +1,4 @@
--- The order of a chart's refusals, and the answers of its calls. Definitions only.
+-- The order of a chart's refusals, and the answers of its calls. Rule 2.4. Definitions only.
 use Prim.Native.Nat.{ℕ}
 use mathlib.Core.Bool.{Bool, not}
 use mathlib.Core.List.{List, [], _∷_}

@@ -1,4 +1,4 @@
--- One index more among those that signal. Definitions only.
+-- One index more among those that signal. Rule 5.5. Definitions only.
 use Prim.Native.Nat.{ℕ, _+_}
 use mathlib.Core.Bool.{Bool, _&&_, cond}
 use mathlib.Core.List.{List}

@@ -1,4 +1,4 @@
--- What a chart's calls come to, for any chart: the answer, and what the lent slice holds afterwards. Definitions only.
+-- What a chart's calls come to, for any chart: the answer, and what the lent slice holds afterwards. Rules 2.5 and 5.5. Definitions only.
 use Prim.Native.Nat.{ℕ}
 use mathlib.Core.Bool.{Bool}
 use mathlib.Core.List.{List, []}

@@ -1,4 +1,4 @@
--- The cost of a segment, in one channel and added over the channels. Definitions only.
+-- The cost of a segment, in one channel and added over the channels. Rule 3.6. Definitions only.
 use Prim.Native.Nat.{ℕ, zero, suc, _-_, _^_}
 use mathlib.Core.Bool.{cond}
 use mathlib.Core.List.{List}

@@ -1,4 +1,4 @@
--- The penalty of a change: by the Bayesian information criterion, BIC, or a custom value that it carries. Definitions only.
+-- The penalty of a change: by the Bayesian information criterion, BIC, or a custom value that it carries. Rule 3.3. Definitions only.
 use Prim.Native.Nat.{ℕ}
 use lib.Ieee.{Float}
 use Rattle.floats.specs.Numbers.{_*ᶠ_, ofWhole}

@@ -25,7 +25,7 @@ unfoldable pub areaCostTo : CostFunction → List Float → ℕ → ℕ → ℕ 
 areaCostTo cost area n a b zero = +0
 areaCostTo cost area n a b (suc c) = areaCostTo cost area n a b c +ᶠ costOf cost (segmentAt area n (c * (2 * (n + 1))) a b)
 
--- `k` channels of `n` readings, within document 01's limits of 8 and 4,096, have a segment from `a` up to `b`, and an area of `size` floats can hold their sums
+-- `k` channels of `n` readings, within the limits of 8 and 4,096, have a segment from `a` up to `b`, and an area of `size` floats can hold their sums
 unfoldable pub segmentFits : ℕ → ℕ → ℕ → ℕ → ℕ → Bool
 segmentFits size n k a b = ltb a b && (leb b n && (leb n maxReadings && (leb k maxChannels && leb (k * (2 * (n + 1))) size)))
 

@@ -1,4 +1,4 @@
-// What a segment of a channel costs, and the penalty of a change.
+// What a segment of a channel costs (rule 3.6), and the penalty of a change (rule 3.3).
 //
 // No function asks anything of its caller. Each result is, to the bit, that of the definition which its
 // contract names: `specs/Costs` for a segment, `specs/Summed` for a segment by the sums that an area

@@ -1,4 +1,4 @@
--- Demand 3 in the words of the calls. If `run_length` answers `At n`, then the nth of any next n finite readings at the level or beyond it signals, in the records that `analyze` wrote and among the indices that `signal_points` wrote.
+-- Promise 3 in the words of the calls. If `run_length` answers `At n`, then the nth of any next n finite readings at the level or beyond it signals, in the records that `analyze` wrote and among the indices that `signal_points` wrote.
 -- And a chart that is fed one level is the chart over a series of that level. Assumes nothing.
 use mathlib.Core.Path.{_≡_, refl, sym, ap, _∙_}
 use Prim.Native.Nat.{ℕ, zero, suc, _+_, _≤_, _<_}

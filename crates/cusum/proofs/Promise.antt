@@ -1,4 +1,4 @@
--- Demand 3: a fresh chart that is fed one level first has its sum above h at reading n; then in any series, the nth of the next finite readings at that level or beyond it carries a signal,
+-- Promise 3: a fresh chart that is fed one level first has its sum above h at reading n; then in any series, the nth of the next finite readings at that level or beyond it carries a signal,
 -- whatever came before, and whatever gaps stand between. One proof serves both sides. Assumes nothing.
 use mathlib.Core.Path.{_≡_, refl, sym, ap, _∙_}
 use Prim.Native.Nat.{ℕ, zero, suc, _+_, _<_, suc-le-suc}

@@ -1,4 +1,4 @@
--- The CUSUM chart (001): its settings, one reading's step, the records of a series, and the indices that signal. Definitions only.
+-- The CUSUM chart: its settings, one reading's step, the records of a series, and the indices that signal. Rules 5.1 to 5.3 and 5.5. Definitions only.
 use Prim.Native.Nat.{ℕ}
 use mathlib.Core.Bool.{Bool, false, _&&_, _||_, cond}
 use mathlib.Core.List.{List}

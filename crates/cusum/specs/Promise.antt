@@ -1,4 +1,4 @@
--- What demand 3 speaks of: the reading at which a level is first heard, and the finite readings of a span. Definitions only.
+-- What promise 3 speaks of: the reading at which a level is first heard, and the finite readings of a span. Definitions only.
 use Prim.Native.Nat.{ℕ, zero, suc, _+_, _≤_, _<_}
 use mathlib.Core.Path.{_≡_}
 use mathlib.Core.Bool.{Bool, not, cond}

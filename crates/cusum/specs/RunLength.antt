@@ -1,4 +1,4 @@
--- The run length: a fresh chart that is fed one level. Definitions only.
+-- The run length: a fresh chart that is fed one level. Rule 5.6. Definitions only.
 use Prim.Native.Nat.{ℕ, zero, suc}
 use mathlib.Core.Bool.{true, false, not}
 use mathlib.Core.List.{List, [], _∷_}

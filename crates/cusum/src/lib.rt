@@ -1,6 +1,6 @@
 // The tabular CUSUM chart of `cusum.rs`: two sums, of how far the readings lie above the target and
 // below it, in units of sigma and less the allowance k at each reading, never under zero; a reading
-// signals where a sum is above the decision interval h.
+// signals where a sum is above the decision interval h (rules 5.3 and 5.6).
 //
 // Every call ends with an answer or a refusal, and asks nothing of its caller: settings are checked
 // when they are used. `specs/Chart` has the recurrences that the records equal, and

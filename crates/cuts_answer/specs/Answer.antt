@@ -1,4 +1,4 @@
--- What the program answers to its input. Definitions only.
+-- What the program answers to its input. Rules 7.2 and 7.3. Definitions only.
 use Prim.Native.Nat.{ℕ, _-_}
 use mathlib.Core.Bool.{Bool, true}
 use mathlib.Core.List.{List, _++_}

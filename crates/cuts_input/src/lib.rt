@@ -1,4 +1,4 @@
-// The form of the program's input: which bytes ask for which search.
+// The form of the program's input (rule 7.1): which bytes ask for which search.
 //
 // `read_request` asks nothing of its caller, and every input has an answer, damaged ones too: the
 // settings of a search with its readings and the lengths of its channels, or that the input is not of

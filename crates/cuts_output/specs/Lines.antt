@@ -1,4 +1,4 @@
--- The output of the program: what is said, as bytes. Definitions only.
+-- The output of the program: what is said, as bytes. Rule 7.3. Definitions only.
 use Prim.Native.Nat.{ℕ, zero, suc, _+_, _/_, _%_}
 use mathlib.Core.Bool.{true, false}
 use mathlib.Core.List.{List, [], _∷_, _++_}

@@ -1,4 +1,4 @@
-// The lines of the program's output: the cuts that a search found, or a refusal, as bytes.
+// The lines of the program's output (rule 7.3): the cuts that a search found, or a refusal, as bytes.
 //
 // No public function asks anything of its caller. `specs/Lines` has the text of an answer,
 // `specs/Written` what is left in the lent area: the text at its front, or nothing where it has less

@@ -38,7 +38,7 @@ pub extern "C" fn overbrindle_powi(x: f64, n: u64) -> f64
     elementary::powi(x, n)
 }
 
-// The natural logarithm of `x`, by document 01's rule.
+// The natural logarithm of `x`, by rule 4.3.
 #[no_mangle]
 pub extern "C" fn overbrindle_ln(x: f64) -> f64
     ensures { λ r. ⌜ r ≡ ln x ⌝ }

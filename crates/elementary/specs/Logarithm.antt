@@ -1,4 +1,4 @@
--- The natural logarithm: document 01's own rule, to the bit. Definitions only.
+-- The natural logarithm, to the bit. Rule 4.3. Definitions only.
 use Prim.Native.Nat.{ℕ, zero, suc, _+_, _-_, _*_, _^_}
 use mathlib.Core.Bool.{true, false, cond}
 use lib.IntN.{ℤ, pos, _+ℤ_, _-ℤ_}

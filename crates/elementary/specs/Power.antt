@@ -1,4 +1,4 @@
--- Powers with a whole exponent, by right-to-left squaring. Definitions only.
+-- Powers with a whole exponent, by right-to-left squaring. Rule 4.2. Definitions only.
 use Prim.Native.Nat.{ℕ, zero, suc, _/_, _%_}
 use lib.Ieee.{Float}
 use Rattle.floats.specs.Numbers.{_*ᶠ_, ofWhole}

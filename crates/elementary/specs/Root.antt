@@ -1,4 +1,4 @@
--- The square root, correctly rounded, by squares of whole numbers. Definitions only.
+-- The square root, correctly rounded, by squares of whole numbers. Rule 4.1. Definitions only.
 use Prim.Native.Nat.{ℕ, zero, suc, _+_, _-_, _*_, _/_, _^_, compare}
 use mathlib.Core.Bool.{true, false, cond}
 use lib.Dec.{leb}

@@ -1,4 +1,4 @@
-// The square root, whole powers and the natural logarithm of document 01: `sqrt`, `powi` and `ln`.
+// The square root, whole powers and the natural logarithm (rules 4.1 to 4.3): `sqrt`, `powi` and `ln`.
 //
 // Each takes every value, asks nothing of its caller, and returns the value that one definition of
 // `specs/` gives, to the bit; NaN counts as one value. The square root is correctly rounded:

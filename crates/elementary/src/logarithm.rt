@@ -1,4 +1,4 @@
-// The natural logarithm, by document 01's rule.
+// The natural logarithm, by rule 4.3.
 ghost use mathlib.Core.Path.{_≡_};
 ghost use Prim.Native.Nat.{_≤_, _<_};
 ghost use lib.IntN.{pos, _-ℤ_};

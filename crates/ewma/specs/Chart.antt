@@ -1,4 +1,4 @@
--- The EWMA chart (002): its settings, its limits, one reading's step, the records of a series, and the indices that signal. Definitions only.
+-- The EWMA chart: its settings, its limits, one reading's step, the records of a series, and the indices that signal. Rules 5.1, 5.2, 5.4 and 5.5. Definitions only.
 use Prim.Native.Nat.{ℕ, suc, _*_}
 use mathlib.Core.Bool.{Bool, false, _&&_, _||_, cond}
 use mathlib.Core.List.{List}

@@ -1,4 +1,4 @@
--- The limits of an EWMA chart (002) by where they come to rest: the place, a width for every place, and a run by them. Definitions only.
+-- The limits of an EWMA chart by where they come to rest: the place, a width for every place, and a run by them. Definitions only.
 use Prim.Native.Nat.{ℕ, zero, suc, _*_}
 use mathlib.Core.Bool.{false, true, cond}
 use mathlib.Core.List.{List}

@@ -1,6 +1,6 @@
 // The exponentially weighted moving average chart of `ewma.rs`: a statistic that moves towards each
 // reading by the weight lambda, with exact limits that widen with the place on the chart; a reading
-// signals where the statistic is strictly outside them.
+// signals where the statistic is strictly outside them (rule 5.4).
 //
 // Every call ends with an answer or a refusal, and asks nothing of its caller: settings are checked
 // when they are used. `specs/Chart` has the recurrences that the records equal.

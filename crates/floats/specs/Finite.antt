@@ -1,4 +1,4 @@
--- Whether a value is finite, and its magnitude. Definitions only.
+-- Whether a value is finite, and its magnitude. Rule 1.7. Definitions only.
 use mathlib.Core.Bool.{false}
 use lib.Ieee.{Float, nan, inf, fin}
 -- whether a value is neither NaN nor an infinity: the library's own definition

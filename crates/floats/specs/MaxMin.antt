@@ -1,4 +1,4 @@
--- Max and min. Each returns the other operand of a NaN; of two equal numbers, zeros of either sign among them, the first. Definitions only.
+-- Max and min. Each returns the other operand of a NaN; of two equal numbers, zeros of either sign among them, the first. Rule 1.4. Definitions only.
 use mathlib.Core.Bool.{cond}
 use lib.Ieee.{Float, ne}
 use Rattle.floats.specs.Numbers.{_<ᶠ_}

@@ -1,4 +1,4 @@
--- binary64's operations as signs, whole numbers and decimal literals as values, and the count of the smallest value. Definitions only.
+-- binary64's operations as signs, whole numbers and decimal literals as values, and the count of the smallest value. Rule 1.1. Definitions only.
 use Prim.Native.Nat.{ℕ, _*_, _/_, _^_}
 use mathlib.Core.Bool.{Bool, true, false}
 use lib.IntN.{ℤ, pos}

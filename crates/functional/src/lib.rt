@@ -1,5 +1,6 @@
 // The functional search, in lent areas: for the L2 cost on one or two channels it finds where the last
-// cut before each end lies, and drops a candidate for that once no mean is left with which it wins.
+// cut before each end lies, and drops a candidate for that once no mean is left with which it wins
+// (rules 3.10 to 3.16).
 //
 // `partition_functional` asks nothing of its caller. Crate `search_rules` has the search as it is
 // defined (`specs/Functional`), and what is answered and left in the lent areas (`specs/Partitioned`);

@@ -1,6 +1,6 @@
 // The inequality search: the predecessors by the recurrence F(t) = min F(tau) + cost(tau, t) + penalty,
 // with candidates dropped by the inequality. A search uses it for the Normal cost, and for L2 on three
-// channels or more.
+// channels or more (rule 3.9).
 //
 // `partition_pruned` asks nothing of its caller. The crate `search_rules` has the recurrence, and what
 // holds of the predecessors; `specs/Pruned` says what is left in the lent areas, and that one outcome

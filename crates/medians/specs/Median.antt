@@ -1,4 +1,4 @@
--- The median of the magnitudes of a channel's first differences, and what working it out leaves in a lent area. Definitions only.
+-- The median of the magnitudes of a channel's first differences, and what working it out leaves in a lent area. Rule 3.4. Definitions only.
 use Prim.Native.Nat.{ℕ, _+_, _-_, _/_, _%_}
 use mathlib.Core.Path.{_≡_}
 use mathlib.Core.Bool.{Bool, _&&_, cond}

@@ -1,4 +1,4 @@
-// The median of the magnitudes of a channel's first differences.
+// The median of the magnitudes of a channel's first differences (rule 3.4).
 //
 // `median_difference` asks nothing of its caller. It works in the lent area `run`, which has one float
 // for each difference and is +0 afterwards; where `run` is of another length, or there is no difference,

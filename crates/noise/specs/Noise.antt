@@ -1,4 +1,4 @@
--- The noise variance of a channel, its sum over channels, and what working it out leaves in a lent area. Definitions only.
+-- The noise variance of a channel, its sum over channels, and what working it out leaves in a lent area. Rules 3.4 and 8.4. Definitions only.
 use Prim.Native.Nat.{ℕ, zero, suc, _+_, _-_, _^_}
 use mathlib.Core.Path.{_≡_}
 use mathlib.Core.Bool.{Bool, cond}

@@ -1,4 +1,4 @@
--- Demand 2 of the four searches: where one answers with a count, that many cuts stand in the front of the lent area, they rise strictly, every piece has at least the minimum length, and there are at most n/2. Assumes nothing.
+-- Promise 2 of the four searches: where one answers with a count, that many cuts stand in the front of the lent area, they rise strictly, every piece has at least the minimum length, and there are at most n/2. Assumes nothing.
 use Prim.Native.Nat.{ℕ}
 use mathlib.Core.Path.{_≡_}
 use mathlib.Core.Bool.{Bool, true, false}

@@ -1,4 +1,4 @@
--- The settings of a search, and what its calls promise. Definitions only.
+-- The settings of a search, and what its calls promise. Rule 3.1. Definitions only.
 use Prim.Native.Nat.{ℕ}
 use mathlib.Core.Bool.{Bool}
 use mathlib.Core.List.{List}

@@ -6,10 +6,10 @@ use mathlib.Core.List.{List}
 use lib.ListN.{length, getD, take}
 use lib.Ieee.{Float, nan}
 use Rattle.floats.specs.Finite.{finite}
-use Rattle.search_answer.specs.Demand.{Cut}
+use Rattle.search_answer.specs.Promise.{Cut}
 use Rattle.pelt.specs.declared.Pelt.{Pelt}
 
--- `count` cuts of `n` readings stand in the front of the lent area, `cuts′`, as demand 2 says
+-- `count` cuts of `n` readings stand in the front of the lent area, `cuts′`, as promise 2 says
 pub record CutsInFront (p : Pelt) (n count : ℕ) (cuts′ : List ℕ) : Type 0 where
   pub many : length (take count cuts′) ≡ count
   pub cut : Cut (p .«min_segment_len») n (take count cuts′)

@@ -2,7 +2,7 @@
 //
 // Every call ends with the cuts or a numbered refusal, and asks nothing of its caller. `specs/Detected`
 // says what is answered and what every lent area holds afterwards, by crate `search_answer`. What
-// demand 2 says of the cuts, and which reading refusal 8 names, is proved of each call (`proofs/Cuts`,
+// promise 2 says of the cuts, and which reading refusal 8 names, is proved of each call (`proofs/Cuts`,
 // `proofs/FirstGap`).
 use costs::CostFunction;
 use costs::Penalty;

@@ -1,4 +1,4 @@
--- The summary of a piece of one channel, and when it is refused. Definitions only.
+-- The summary of a piece of one channel, and when it is refused. Rules 2.4 and 6.1. Definitions only.
 use Prim.Native.Nat.{ℕ, _-_}
 use mathlib.Core.Bool.{Bool, not, _&&_}
 use mathlib.Core.List.{List, [], _∷_}

@@ -1,7 +1,8 @@
-// The summary of a piece of one channel: how many readings, their mean, and how far they spread.
+// The summary of a piece of one channel (rule 6.1): how many readings, their mean, and how far they
+// spread.
 //
 // Every call ends with a summary or refusal 6 or 12, and asks nothing of its caller. `specs/Piece`
-// has the definition that the answer equals, and `summarised`, what it says in document 01's numbers,
+// has the definition that the answer equals, and `summarised`, what it says in the rules' numbers,
 // stated by the law `summarised-said`; mean and cost are those of the search. It needs no lent room.
 mod segment_of;
 

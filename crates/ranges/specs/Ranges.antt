@@ -1,4 +1,4 @@
--- The range of a channel: its lowest and highest reading. Definitions only.
+-- The range of a channel: its lowest and highest reading. Rule 3.4. Definitions only.
 use Prim.Native.Nat.{ℕ, zero, suc}
 use mathlib.Core.List.{List}
 use lib.ListN.{length, getD}

@@ -4,7 +4,7 @@
 // No function asks anything of its caller. Lengths are added exactly: a list whose sum only fits
 // after it wrapped is refused.
 //
-// What the answers say in document 01's numbers: `shaped` and `checked` in `specs/`, and the laws
+// What the answers say in the rules' numbers: `shaped` and `checked` in `specs/`, and the laws
 // `shaped-said` and `checked-said` in `proofs/`. Where there is no channel `k` the view gives an empty
 // part: `specs/View`; that the channels of lengths which are not refused are the parts of the run is a
 // law of `proofs/ViewLaws`.

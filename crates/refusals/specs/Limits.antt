@@ -1,4 +1,4 @@
--- The limits of document 01 that every call keeps. Definitions only.
+-- The limits that every call keeps. Rule 1.3. Definitions only.
 use Prim.Native.Nat.{ℕ}
 
 -- the most channels of a run; more are refusal 3

@@ -1,4 +1,4 @@
--- What each refusal says: document 01's number, and the values that go with it. Definitions only.
+-- What each refusal says: its number, and the values that go with it. Rules 2.1 and 2.2. Definitions only.
 use Prim.Native.Nat.{ℕ}
 use mathlib.Core.List.{List, [], _∷_}
 use lib.ListN.{length, getD}
@@ -15,7 +15,7 @@ pub record Stated : Type 0 where
 abbrev pub plain : ℕ → Stated
 plain n = record { number = n; values = [] }
 
--- the table of document 01; 8 also says the channel and the index
+-- the table of rule 2.1; 8 also says the channel and the index
 abbrev pub stated : Refusal → Stated
 stated Penalty = plain 1
 stated MinLen = plain 2

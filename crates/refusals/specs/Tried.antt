@@ -1,4 +1,4 @@
--- The order in which refusals are tried, for any kind of answer. Definitions only.
+-- The order in which refusals are tried, for any kind of answer. Rule 2.4. Definitions only.
 use Prim.Native.Nat.{ℕ}
 use mathlib.Core.Bool.{Bool, true, not, _&&_, cond}
 use mathlib.Core.List.{List, [], _∷_}

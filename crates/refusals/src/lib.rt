@@ -1,7 +1,7 @@
 // Every refusal of the library, the number and the values by which it is known outside, the answer of a
 // call that counts, and the two limits that are refused beyond.
 //
-// The numbers and their values are document 01's. They are written here and nowhere else: a caller that
+// The numbers and their values are those of rule 2.1. They are written here and nowhere else: a caller that
 // prints or stores a refusal asks `number` and `values`, and code that keeps a limit names it. So a new
 // refusal is a case here, a line of `specs/Stated` and of the laws, and the crate that gives it.
 //

@@ -1,5 +1,5 @@
 // Replays stored searches through the four public searches of `pelt`: the answers are the Rust's, or by
-// document 01's rules where the Rust has none. Compared are the answer, a refusal's number with its
+// docs/RULES.md where the Rust has none. Compared are the answer, a refusal's number with its
 // channel and index among it, the cuts at the front of the cuts area, that the rest of it is as it was,
 // and every lent work float, index and pool float: zero after an answer and after refusal 9, and as it
 // was after any other refusal. The areas hold junk before each call. It shows the first differences, and

@@ -1,4 +1,4 @@
-// Prints the number of every refusal, one a line in the order of document 01's table, for comparison
+// Prints the number of every refusal, one a line in the order of the table of rule 2.1, for comparison
 // with that table in `stdout`.
 use refusals::Refusal;
 

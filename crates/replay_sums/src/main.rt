@@ -1,5 +1,5 @@
 // Replays stored answers of the Rust's sums, ranges, L2 costs and noise variances, piece summaries that
-// follow from them, and Normal costs and penalties by document 01's logarithm: it shows the first values
+// follow from them, and Normal costs and penalties by the logarithm of rule 4.3: it shows the first values
 // that are not the stored ones, to the bit, and says how many there are of each kind, and how many
 // differ. Values come and go as bit patterns, by `floats::from_bits` and `floats::to_bits`.
 //

@@ -1,7 +1,7 @@
 // A search by its settings: the cuts in the front of a lent area, or a numbered refusal.
 //
 // `find_cuts` asks nothing of its caller. Crate `search_answer` has the cuts, what is answered and what
-// every lent area holds afterwards, and proves what demand 2 says of the cuts. `specs/Inner` is for the
+// every lent area holds afterwards, and proves what promise 2 says of the cuts. `specs/Inner` is for the
 // private functions.
 mod cuts;
 mod search;

@@ -1,4 +1,4 @@
--- Demand 2 of the search that a caller asks, for all readings: its cuts rise strictly, every piece has at least the minimum length, and there are at most n/2. Assumes nothing.
+-- Promise 2 of the search that a caller asks, for all readings: its cuts rise strictly, every piece has at least the minimum length, and there are at most n/2. Assumes nothing.
 use Prim.Native.Nat.{ℕ, _*_, _/_, _≤_}
 use mathlib.Core.Path.{_≡_, refl}
 use mathlib.Core.Bool.{Bool, true, false}
@@ -29,7 +29,7 @@ use Rattle.search_rules.specs.Limits.{slotFloats}
 use Rattle.search_answer.specs.Tests.{admittedAs}
 use Rattle.search_answer.specs.Search.{penaltyValue, prunedCuts, functionalCuts, takesFunctional, cutsBy, cutsWith, cutsFound}
 use Rattle.search_answer.specs.Outcome.{Areas, testsOf, foundIn, detected}
-use Rattle.search_answer.specs.Demand.{Cut}
+use Rattle.search_answer.specs.Promise.{Cut}
 use Rattle.search_answer.proofs.AdmissionLaws.{passed-channels, admitted-fits}
 use Rattle.search_answer.proofs.FrontLaws.{counted-found, front}
 

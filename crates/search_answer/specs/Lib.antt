@@ -1,5 +1,5 @@
 pub mod Tests
 pub mod Search
 pub mod Outcome
-pub mod Demand
+pub mod Promise
 pub mod Inner

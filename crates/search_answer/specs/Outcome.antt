@@ -1,4 +1,4 @@
--- What a search comes to: the answer, and what every lent area holds afterwards. Definitions only.
+-- What a search comes to: the answer, and what every lent area holds afterwards. Rules 2.5 and 3.16. Definitions only.
 use Prim.Native.Nat.{ℕ, _/_}
 use mathlib.Core.Bool.{Bool}
 use mathlib.Core.List.{List, _++_}

@@ -1,4 +1,4 @@
--- The cuts of a search that nothing refused before 9. Definitions only.
+-- The cuts of a search that nothing refused before 9. Rules 3.2, 3.3 and 3.7. Definitions only.
 use Prim.Native.Nat.{ℕ, _*_}
 use mathlib.Core.Bool.{Bool, true, false}
 use mathlib.Core.List.{List, []}

@@ -1,4 +1,4 @@
--- The refusals of a search before 9, in the order in which they are tried. Definitions only.
+-- The refusals of a search before 9, in the order in which they are tried. Rules 2.1 to 2.4. Definitions only.
 use Prim.Native.Nat.{ℕ}
 use mathlib.Core.Bool.{Bool, false, not, _&&_, _||_}
 use mathlib.Core.List.{List, [], _∷_, _++_}

@@ -1,4 +1,4 @@
--- The functional search, for the L2 cost on one or two channels. Definitions only.
+-- The functional search, for the L2 cost on one or two channels. Rules 3.8, 3.10 and 3.11. Definitions only.
 use Prim.Native.Nat.{ℕ, zero, suc, _+_, _-_, _^_, max}
 use mathlib.Core.Bool.{true, cond}
 use mathlib.Core.List.{List, [], _∷_, _++_, map}

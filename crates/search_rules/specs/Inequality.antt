@@ -1,4 +1,4 @@
--- The inequality search. Definitions only.
+-- The inequality search. Rules 3.8 and 3.9. Definitions only.
 use Prim.Native.Nat.{ℕ, zero, suc, _+_, _-_}
 use mathlib.Core.Bool.{Bool, cond}
 use mathlib.Core.List.{List, [], _∷_, _++_}

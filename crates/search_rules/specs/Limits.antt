@@ -1,4 +1,4 @@
--- The limits of document 01 that a search keeps. Definitions only.
+-- The limits that a search keeps. Rules 2.1, 2.3 and 3.7. Definitions only.
 use Prim.Native.Nat.{ℕ}
 
 -- the least that a minimum length may be; less is refusal 2

@@ -1,4 +1,4 @@
--- The first strict minimum in scan order. Definitions only.
+-- The first strict minimum in scan order. Rule 3.8. Definitions only.
 use Prim.Native.Nat.{ℕ, zero, suc}
 use mathlib.Core.Bool.{Bool, cond}
 use mathlib.Core.List.{List, [], _∷_, _++_}

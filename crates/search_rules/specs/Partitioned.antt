@@ -1,4 +1,4 @@
--- What `partition_functional` answers, and what it leaves in the lent areas. Definitions only.
+-- What `partition_functional` answers, and what it leaves in the lent areas. Rule 3.16. Definitions only.
 use Prim.Native.Nat.{ℕ, _+_, _-_, _/_}
 use mathlib.Core.Path.{_≡_}
 use mathlib.Core.Bool.{Bool, true, false, _&&_, cond}

@@ -1,10 +1,10 @@
--- What a search of k channels of n readings asks of the run and of the lent areas. Definitions only.
+-- What a search of k channels of n readings asks of the run and of the lent areas. Rule 2.3. Definitions only.
 use Prim.Native.Nat.{ℕ, _+_, _*_, _/_}
 use mathlib.Core.Bool.{Bool, _&&_}
 use lib.Dec.{leb}
 use Rattle.refusals.specs.Limits.{maxChannels, maxReadings}
 
--- a run of `run` readings has `k` channels of `n`, within document 01's limits; `m` is at least 1 and at most `n`
+-- a run of `run` readings has `k` channels of `n`, within the limits of rule 1.3; `m` is at least 1 and at most `n`
 unfoldable pub seriesFits : ℕ → ℕ → ℕ → ℕ → Bool
 seriesFits run n k m = leb k maxChannels && (leb n maxReadings && (leb (k * n) run && (leb 1 m && leb m n)))
 

@@ -1,4 +1,4 @@
-// Both searches as document 01 defines them, and the small functions that both share.
+// Both searches as the rules define them (rules 3.8 to 3.16), and the small functions that both share.
 //
 // `specs/Minimum` has the first strict minimum in scan order, `specs/Predecessors` what is said of a
 // list of predecessors, `specs/Room` the room that a search asks. `specs/Inequality` is the inequality

@@ -1,4 +1,4 @@
--- The running sums of all channels of a run, each about its own mean, one channel after the other in an area. Definitions only.
+-- The running sums of all channels of a run, each about its own mean, one channel after the other in an area. Rule 3.5. Definitions only.
 use Prim.Native.Nat.{ℕ, _+_, _*_, _<_}
 use mathlib.Core.Path.{_≡_}
 use mathlib.Core.Bool.{Bool, true, false, _&&_}
@@ -15,7 +15,7 @@ use Rattle.sums.specs.Sums.{meanOf, Held}
 pub record Sums (run : List Float) (n k : ℕ) (area : List Float) : Type 0 where
   pub channel : (c : ℕ) → c < k → Held (channelOf run n c) (meanOf (channelOf run n c)) n area (c * (2 * (n + 1)))
 
--- a run of `run` readings has `k` channels of `n`, within document 01's limits of 8 and 4,096, and an area of `size` floats has room for their sums
+-- a run of `run` readings has `k` channels of `n`, within the limits of 8 and 4,096, and an area of `size` floats has room for their sums
 unfoldable pub sumsFit : ℕ → ℕ → ℕ → ℕ → Bool
 sumsFit run n k size = leb k maxChannels && (leb n maxReadings && (leb (k * n) run && leb (k * (2 * (n + 1))) size))
 

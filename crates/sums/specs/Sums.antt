@@ -1,4 +1,4 @@
--- The mean of a channel, and the running sums of its readings less that mean and of their squares. Definitions only.
+-- The mean of a channel, and the running sums of its readings less that mean and of their squares. Rule 3.5. Definitions only.
 use Prim.Native.Nat.{ℕ, zero, suc, _+_, _*_}
 use mathlib.Core.Path.{_≡_}
 use mathlib.Core.Bool.{Bool, true, false}

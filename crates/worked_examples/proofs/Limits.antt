@@ -1,4 +1,4 @@
--- The limits that a user sees, in document 01's numbers: with another number in a definition and in the code alike this does not prove. Assumes nothing.
+-- The limits that a user sees, in the numbers of the rules: with another number in a definition and in the code alike this does not prove. Assumes nothing.
 use mathlib.Core.Path.{_≡_, refl}
 use Rattle.refusals.specs.Limits.{maxChannels, maxReadings}
 use Rattle.candidate_balls.specs.Losing.{losingBalls}

@@ -1,4 +1,4 @@
--- Rows of our own, Q1 to Q87: each catches a wrong program that the marked examples let pass. Definitions only.
+-- Rows of our own, Q1 to Q87: each catches a wrong program that the worked examples let pass. Definitions only.
 use Prim.Native.Nat.{_-_, _*_, _^_}
 use mathlib.Core.Bool.{true, false}
 use mathlib.Core.List.{List, [], _∷_, _++_}
@@ -98,7 +98,7 @@ furtherRoundingRows =
 -- ---- the inequality search, which asks for no slots
 unfoldable pub inequalityRows : List Row
 inequalityRows =
-    -- Q11 the row that document 01 runs only
+    -- Q11 Normal finds the step too
     finds (plainly Normal (custom 1) 2 step 0) 1 (2 ∷ 7 ∷ [])
     -- Q12 with a tiny penalty the winner is dropped too, and F(3) is infinite
     ∷ finds (plainly Normal (Custom (ratio 1 (10 ^ 300))) 2 (replicate 4 +0) 0) 1 (2 ∷ 7 ∷ [])

@@ -1,4 +1,4 @@
--- The marked examples P1 to P13 of document 01. Definitions only.
+-- The worked examples P1 to P13 of docs/RULES.md. Section 9. Definitions only.
 use mathlib.Core.Bool.{true, false}
 use mathlib.Core.List.{List, [], _∷_}
 use lib.Ieee.{Float, nan, neg}

@@ -1,6 +1,6 @@
-// The marked examples of document 01, evaluated. There is no code here: `specs/Marked` is the table of
+// The worked examples of docs/RULES.md, evaluated. There is no code here: `specs/Marked` is the table of
 // P1 to P13 and `specs/Further` a second one of our own rows, which catch wrong programs that the first
-// lets pass; docs/PROMISES.md says which row refuses which.
+// lets pass; docs/WRONG_PROGRAMS.md says which row refuses which.
 //
 // It promises that both tables hold of the definitions that the contracts of `pelt`, `cusum` and `ewma`
 // cite, each under a single statement (`proofs/Tables`: `marked`, `further`) and with as many rows as

@@ -195,7 +195,7 @@ pub enum Call {
     /// The predecessors of a functional search: penalty, run, n, channels, m and slots.
     Predecessors(f64, Rc<Vec<f64>>, usize, usize, usize, usize),
     Program(Vec<u8>),
-    /// The number of the refusal at this place of document 01's table.
+    /// The number of the refusal at this place of the table of rule 2.1.
     Number(usize),
 }
 

@@ -89,7 +89,7 @@ fn lines(stored: &mut Stored) -> Vec<String> {
     text.lines().map(String::from).collect()
 }
 
-/// The numbers of the refusals, in the order of document 01's table.
+/// The numbers of the refusals, in the order of rule 2.1.
 fn numbers(stored: &mut Stored) -> ControlFlow<()> {
     for (place, line) in lines(stored).iter().enumerate() {
         stored.begun();

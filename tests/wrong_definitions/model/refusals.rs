@@ -18,7 +18,7 @@ pub enum Refusal {
     Piece,
 }
 
-/// In the order of document 01's table.
+/// In the order of rule 2.1.
 pub const TABLE: [Refusal; 12] = [
     Refusal::Penalty,
     Refusal::MinLen,

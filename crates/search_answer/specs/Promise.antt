@@ -1,4 +1,4 @@
--- What demand 2 says of the cuts of a search. Definitions only.
+-- What promise 2 says of the cuts of a search. Definitions only.
 use Prim.Native.Nat.{ℕ, _/_, _≤_, _<_}
 use mathlib.Core.List.{List}
 use Rattle.backtrack.specs.Pieces.{Rising, Pieces}
