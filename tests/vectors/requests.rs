@@ -10,8 +10,8 @@ const INFINITY: f64 = f64::INFINITY;
 
 type Input = Vec<u8>;
 
-/// Document 01's worked example.
-const EXAMPLE: [u8; 55] = [
+/// The worked example of docs/RULES.md.
+pub const EXAMPLE: [u8; 55] = [
     0x01, 0x00, 0x01, 0x00, //
     0x02, 0x00, 0x08, 0x3f, 0xf0, 0x00, 0x00, 0x00, 0x00, 0x00, 0x00, //
     0x03, 0x00, 0x02, 0x00, 0x02, //
@@ -111,7 +111,7 @@ fn worked_example() -> Vec<Input> {
     assert_eq!(
         example().bytes(),
         EXAMPLE,
-        "the fields as document 01 has them"
+        "the fields as the rules have them"
     );
     vec![EXAMPLE.to_vec()]
 }

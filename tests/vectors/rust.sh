@@ -8,10 +8,18 @@
 # cusum.rs and ewma.rs FILE is built alone if it is given. OUT has the libraries afterwards: the files as
 # they are (pelt, cusum, ewma), pelt.rs with functions appended that open its private ones (pelt_opened),
 # and copies in which what Rust leaves open is as docs/RULES.md has it (pelt_ruled, ewma_ruled).
+#
+# RUSTC is the compiler, by default rustc, and RUSTFLAGS has more words for it, such as a target.
+
+# compile WORDS...: calls the compiler.
+compile() {
+    # shellcheck disable=SC2086
+    "${RUSTC:-rustc}" --edition 2021 -C opt-level=3 ${RUSTFLAGS:-} "$@"
+}
 
 # rust NAME FILE: compiles FILE as the library NAME.
 rust() {
-    rustc --edition 2021 -C opt-level=3 --crate-type rlib --crate-name "$1" -o "$out/lib$1.rlib" "$2"
+    compile --crate-type rlib --crate-name "$1" -o "$out/lib$1.rlib" "$2"
 }
 
 # ruled NAME LINES APPENDED EDIT...: a copy of a file of the Rust by the edits of sed, which have to change
@@ -50,7 +58,7 @@ build_ewma() {
 }
 
 build_rust() {
-    needs rustc
+    needs "${RUSTC:-rustc}"
     detection=$1/detection
     out=$2
     [ -f "$detection/pelt.rs" ] ||

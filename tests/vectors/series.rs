@@ -221,19 +221,31 @@ fn noise(random: &mut Random, centre: f64, scale: f64, count: usize) -> Vec<f64>
     (0..count).map(|_| centre + scale * bell(random)).collect()
 }
 
+/// Two values added. Infinity less infinity is stored as this NaN: a processor's own has the sign bit on
+/// x86-64 and not on Arm.
+fn sum(x: f64, y: f64) -> f64 {
+    match x.is_infinite() && x == -y {
+        true => f64::NAN,
+        false => x + y,
+    }
+}
+
 /// Noise, shifted from one of its readings to the end.
 fn stepped(random: &mut Random, centre: f64, scale: f64, count: usize) -> Vec<f64> {
     let place = random.below(count as u64 + 1) as usize;
     let shift = scale * between(random, -3.0, 3.0);
     let mut readings = noise(random, centre, scale, count);
-    readings[place..].iter_mut().for_each(|x| *x += shift);
+    let shifted = readings[place..].iter_mut();
+    shifted.for_each(|x| *x = sum(*x, shift));
     readings
 }
 
 fn drifting(random: &mut Random, centre: f64, scale: f64, count: usize) -> Vec<f64> {
     let slope = scale * between(random, -0.2, 0.2);
     let readings = noise(random, centre, scale, count).into_iter().enumerate();
-    readings.map(|(at, x)| x + slope * at as f64).collect()
+    readings
+        .map(|(at, x)| sum(x, slope * at as f64))
+        .collect()
 }
 
 /// The centre and up to three times the scale away from it, in halves.
