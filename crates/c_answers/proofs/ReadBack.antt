@@ -1,4 +1,4 @@
--- The number that is told says what was answered: 0 a result and no refusal, 8 the first gap's channel and index. Assumes nothing.
+-- The number that is told says what was answered: 0 a result and no refusal, 8 the first gap's channel and index, 9 too few slots. Assumes nothing.
 use mathlib.Core.Path.{_≡_, refl, sym, ap, ap₂, _∙_}
 use Prim.Native.Nat.{ℕ}
 use native.Mathlib.Omega.{arith}
@@ -7,7 +7,7 @@ use mathlib.Core.List.{List, [], _∷_}
 use Rattle.refusals.specs.Stated.{stated}
 use Rattle.refusals.specs.Tried.{tried}
 use Rattle.refusals.specs.Said.{Said, refusing, said}
-use Rattle.refusals.proofs.Apart.{eight-is-gap}
+use Rattle.refusals.proofs.Apart.{eight-is-gap, nine-is-pool}
 use Rattle.refusals.proofs.ValueLaws.{number-bounds}
 use Rattle.refusals.specs.declared.Refusal.{Refusal}
 use Rattle.refusals.specs.declared.Refusal.the-variants as Refusal
@@ -46,3 +46,8 @@ unfolding toldOf
 gap-told r k i e =
     let number : stated r .number ≡ 8 = sym (ap (λ (t : Told). t .number) e) in
     eight-is-gap r number ∙ sym (ap₂ (λ (a b : ℕ). Refusal.NonFinite a b) (ap (λ (t : Told). t .channel) e) (ap (λ (t : Told). t .index) e))
+
+-- ---- 9
+pub pool-told : (r : Refusal) → toldAs 9 0 0 0 ≡ toldOf (refusing r) → r ≡ Refusal.Pool
+unfolding toldOf
+pool-told r e = nine-is-pool r (sym (ap (λ (t : Told). t .number) e))

@@ -1,7 +1,7 @@
--- What programs in other languages may rely on of a search: where 0 and a count are told, promise 2 of that many cuts in the front of the area; where 8, a channel and an index are told, that reading is the first that is not finite.
+-- What programs in other languages may rely on of a search: where 0 and a count are told, promise 2 of that many cuts in the front of the area; where 8, a channel and an index are told, that reading is the first that is not finite; where 9 is told, there were fewer slots than readings a channel.
 -- Assumes nothing.
 use mathlib.Core.Path.{_≡_, sym, ap, ap₂}
-use Prim.Native.Nat.{ℕ}
+use Prim.Native.Nat.{ℕ, _/_, _<_}
 use native.Mathlib.Omega.{arith}
 use mathlib.Core.Bool.{Bool, true, false, not}
 use mathlib.Core.List.{List, _∷_}
@@ -18,13 +18,15 @@ use Rattle.refusals.specs.declared.Refusal.the-variants as Refusal
 use Rattle.refusals.proofs.TriedLaws.{no-count}
 use Rattle.readings.specs.Shape.{firstLength}
 use Rattle.readings.specs.FirstGap.{FirstGap}
+use Rattle.search_rules.specs.Limits.{slotFloats}
 use Rattle.search_answer.specs.Outcome.{Areas, outcomeBy, testsOf, foundIn, detected}
 use Rattle.search_answer.specs.Promise.{Cut}
 use Rattle.search_answer.proofs.CutLaws.{detected-cuts}
 use Rattle.search_answer.proofs.FrontLaws.{detected-count, detected-gap}
+use Rattle.search_answer.proofs.SlotLaws.{detected-slots}
 use Rattle.c_answers.specs.declared.Told.{Told}
 use Rattle.c_answers.specs.Told.{toldAs, toldOf}
-use Rattle.c_answers.proofs.ReadBack.{refusal-told, gap-told}
+use Rattle.c_answers.proofs.ReadBack.{refusal-told, gap-told, pool-told}
 use Rattle.c_search.specs.Asked.{knownNumbers, costOf, penaltyOf, askedTests, toldSearch}
 
 -- where the answer is not the refusal of a first test, the search is the one without it
@@ -45,9 +47,17 @@ unfolding toldOf
 place-told (Answer.Count n) k i e = absurd (let z : 8 ≡ 0 = ap (λ (t : Told). t .number) e in omega (arith, z))
 place-told (Answer.Refused r) k i e = ap Answer.Refused (gap-told r k i e)
 
--- a refusal with a place is not refusal 10
+slots-told : (r : Answer) → toldAs 9 0 0 0 ≡ toldOf (said r) → r ≡ Answer.Refused Refusal.Pool
+unfolding toldOf
+slots-told (Answer.Count n) e = absurd (let z : 9 ≡ 0 = ap (λ (t : Told). t .number) e in omega (arith, z))
+slots-told (Answer.Refused r) e = ap Answer.Refused (pool-told r e)
+
+-- a refusal with a place, or for too few slots, is not refusal 10
 gap-no-form : (k i : ℕ) → Answer.Refused (Refusal.NonFinite k i) ≡ Answer.Refused Refusal.Form → ⊥
 gap-no-form k i e = clash cc
+
+pool-no-form : Answer.Refused Refusal.Pool ≡ Answer.Refused Refusal.Form → ⊥
+pool-no-form e = clash cc
 
 module _ (strict : Bool) (cost kind : ℕ) (value : Float) (m : ℕ) (run : List Float) (lengths : List ℕ) (before after : Areas) where
   abbrev answered : Answer × Areas
@@ -71,3 +81,8 @@ module _ (strict : Bool) (cost kind : ℕ) (value : Float) (m : ℕ) (run : List
       let d = behind (toldAs 8 0 k i) (Answer.Refused (Refusal.NonFinite k i)) (gap-no-form k i) a (place-told (answered .0) k i (ap (λ (o : Told × Areas). o .0) a)) in
       let g = detected-gap strict (costOf cost) (penaltyOf kind value) m run lengths before after k i d in
       (g .is-strict, g .first)
+
+  pub told-slots : _≡_ {A = Told × Areas} (toldAs 9 0 0 0, after) (toldSearch strict cost kind value m run lengths before) → length (before .pool) / slotFloats < firstLength lengths
+  told-slots a =
+      let d = behind (toldAs 9 0 0 0) (Answer.Refused Refusal.Pool) pool-no-form a (slots-told (answered .0) (ap (λ (o : Told × Areas). o .0) a)) in
+      detected-slots strict (costOf cost) (penaltyOf kind value) m run lengths before after d

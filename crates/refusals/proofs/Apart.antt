@@ -65,7 +65,16 @@ answers-apart (Answer.Refused r) (Answer.Refused q) e = ap Answer.Refused (refus
 answers-apart (Answer.Count n) (Answer.Refused q) e = cc
 answers-apart (Answer.Refused r) (Answer.Count m) e = cc
 
--- 8 is the refusal of a reading that is not finite, with the values that are stated
+-- a number names its refusal
+by-number : (r : Refusal) (n : ℕ) → stated r .number ≡ n → r ≡ numbered (cases (stated r .values)) n
+unfolding read
+by-number r n e = sym (read-back r) ∙ ap (numbered (cases (stated r .values))) e
+
+-- 8 is the refusal of a reading that is not finite, with the values that are stated, and 9 that of too few slots
 pub eight-is-gap : (r : Refusal) → stated r .number ≡ 8 → r ≡ NonFinite (getD (stated r .values) 0 0) (getD (stated r .values) 1 0)
-unfolding read numbered cases
-eight-is-gap r e = sym (read-back r) ∙ ap (λ (n : ℕ). numbered (cases (stated r .values)) n) e
+unfolding numbered cases
+eight-is-gap r e = by-number r 8 e
+
+pub nine-is-pool : (r : Refusal) → stated r .number ≡ 9 → r ≡ Pool
+unfolding numbered cases
+nine-is-pool r e = by-number r 9 e

@@ -3,3 +3,4 @@ pub mod RefusedGap
 pub mod Examples
 pub mod CutLaws
 pub mod FrontLaws
+pub mod SlotLaws

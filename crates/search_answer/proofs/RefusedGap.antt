@@ -4,9 +4,10 @@ use mathlib.Core.Path.{_≡_, refl}
 use mathlib.Core.Bool.{Bool, true, false, not, _&&_}
 use mathlib.Core.List.{List, [], _∷_, _++_}
 use borrow.Author.Tests.{ltb-true}
-use lib.Dec.{T, eqb, ltb}
+use lib.Dec.{T, eqb, eqb-refl, ltb}
 use lib.ListN.{length}
 use lib.Ieee.{Float}
+use lib.Ieee.Bits.{is-true}
 use lib.Ieee.Fits.{and-l, and-r}
 use Rattle.costs.specs.declared.Penalty.{Penalty}
 use Rattle.refusals.specs.Stated.{stated}
@@ -31,17 +32,24 @@ eight k i = Answer.Refused (Refusal.NonFinite k i)
 refusal-is : (r q : Refusal) → Answer.Refused r ≡ Answer.Refused q → r ≡ q
 refusal-is r q e = cc
 
--- none of these tests refuses with 8
-others : List (Bool × Refusal) → Bool
-others [] = true
-others (t ∷ ts) = not (eqb (stated (t .1) .number) 8) && others ts
+-- none of these tests refuses with `number`
+unfoldable pub others : ℕ → List (Bool × Refusal) → Bool
+others number [] = true
+others number (t ∷ ts) = not (eqb (stated (t .1) .number) number) && others number ts
 
--- so where 8 is answered, none of them holds, and those after them give it
-after-others : (ts us : List (Bool × Refusal)) (s : Answer) (k i : ℕ) → T (others ts) → eight k i ≡ tried Answer.Refused (ts ++ us) s → (passed ts ≡ true) × (eight k i ≡ tried Answer.Refused us s)
+-- a number is no other than itself
+not-itself : (n : ℕ) → T (not (eqb n n)) → ⊥
+not-itself n h = rw (is-true (eqb n n) (eqb-refl n)) at h
+
+same-number : (q r : Refusal) → q ≡ r → T (not (eqb (stated r .number) (stated q .number))) → ⊥
+same-number q r e h = not-itself (stated r .number) (rw e at h)
+
+-- so where a refusal with that number is answered, none of them holds, and those after them give it
+pub after-others : (q : Refusal) (ts us : List (Bool × Refusal)) (s : Answer) → T (others (stated q .number) ts) → Answer.Refused q ≡ tried Answer.Refused (ts ++ us) s → (passed ts ≡ true) × (Answer.Refused q ≡ tried Answer.Refused us s)
 unfolding others tried passed
-after-others [] us s k i o e = (refl, e)
-after-others ((true, r) ∷ ts) us s k i o e = absurd (rw (← refusal-is (Refusal.NonFinite k i) r e) at (and-l (not (eqb (stated r .number) 8)) (others ts) o))
-after-others ((false, r) ∷ ts) us s k i o e = after-others ts us s k i (and-r (not (eqb (stated r .number) 8)) (others ts) o) e
+after-others q [] us s o e = (refl, e)
+after-others q ((true, r) ∷ ts) us s o e = absurd (same-number q r (refusal-is q r e) (and-l (not (eqb (stated r .number) (stated q .number))) (others (stated q .number) ts) o))
+after-others q ((false, r) ∷ ts) us s o e = after-others q ts us s (and-r (not (eqb (stated r .number) (stated q .number))) (others (stated q .number) ts) o) e
 
 -- the place that is answered, with two names for its parts
 same-place : (A : ℕ → ℕ → Type 0) (k i l j : ℕ) → eight k i ≡ eight l j → A l j → A k i
@@ -60,9 +68,9 @@ module _ (strict : Bool) (penalty : Penalty) (m : ℕ) (run : List Float) (lengt
       let n = firstLength lengths in
       let at = gapTo run (length run) in
       let room = roomTests strict run n (length lengths) cuts floats indices in
-      let a = after-others ((badPenalty penalty, Refusal.Penalty) ∷ (ltb m leastMinimum, Refusal.MinLen) ∷ []) (shapeTests lengths (length run) ++ room) s k i tt e in
-      let b = after-others (shapeTests lengths (length run)) room s k i tt (a .1) in
-      let c = after-others ((shortRoom n (length lengths) cuts floats indices, Refusal.Room) ∷ []) ((strict && ltb at (length run), Refusal.NonFinite (channelAt n at) (indexAt n at)) ∷ []) s k i tt (b .1) in
+      let a = after-others (Refusal.NonFinite k i) ((badPenalty penalty, Refusal.Penalty) ∷ (ltb m leastMinimum, Refusal.MinLen) ∷ []) (shapeTests lengths (length run) ++ room) s tt e in
+      let b = after-others (Refusal.NonFinite k i) (shapeTests lengths (length run)) room s tt (a .1) in
+      let c = after-others (Refusal.NonFinite k i) ((shortRoom n (length lengths) cuts floats indices, Refusal.Room) ∷ []) ((strict && ltb at (length run), Refusal.NonFinite (channelAt n at) (indexAt n at)) ∷ []) s tt (b .1) in
       let shape = shapely run lengths (passed-channels (shapeTests lengths (length run)) (Shaped.Channels (length lengths) n) (b .0)) in
       last shape strict (ltb at (length run)) refl (λ l. first-gap run (length lengths) n (shape .few) (shape .short) (shape .fill) (ltb-true at (length run) l)) (c .1)
     where
