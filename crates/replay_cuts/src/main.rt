@@ -5,12 +5,8 @@
 // which the outputs differ, or how many bytes an output may have where none does, and value 1 the length
 // of the output.
 //
-// Standard input was made by
-//
-//     target/vectors_fields > crates/replay_cuts/stdin
-//
-// where the first lines of `tests/vectors/fields.rs` say how that program is built, and what a case is
-// made of.
+// `tests/vectors/run` makes standard input; the first lines of `tests/vectors/fields.rs` say what
+// a case is made of.
 mod stored;
 
 use cuts_answer::Printed;

@@ -10,12 +10,9 @@
 //     5, 6      the answers of signal_points and analyze: how many results, or a refusal 32 bits higher
 //     7, 8      an index, and a lent index behind the last
 //
-// The answers are the unmodified Rust's. Standard input was made by
-//
-//     target/vectors_charts ewma > crates/replay_ewma/stdin
-//
-// where the first lines of `tests/vectors/charts.rs` say how that program is built, and what a case is
-// made of. At the end come calls that the Rust can't show: see `limits`.
+// The answers are the unmodified Rust's. `tests/vectors/run` makes standard input; the first lines of
+// `tests/vectors/charts.rs` say what a case is made of. At the end come calls that the Rust can't show:
+// see `limits`.
 mod lend;
 mod limits;
 mod records;

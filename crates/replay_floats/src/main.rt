@@ -3,10 +3,8 @@
 // each function how many there are. Values come and go as bit patterns, by `floats::from_bits` and
 // `floats::to_bits`.
 //
-// The cases come from a program that shares no code with the crates. Standard input was made by
-//
-//     rustc -O tests/vectors/floats.rs -o target/vectors_floats
-//     target/vectors_floats > crates/replay_floats/stdin
+// The cases come from a program that shares no code with the crates, `tests/vectors/floats.rs`, by
+// `tests/vectors/run`.
 //
 // A case is 25 bytes: a letter for the function, and then three numbers, the highest byte first: the bit
 // pattern of x; n, an exponent or the bit pattern of a second value or 0; the result's bit pattern.

@@ -15,12 +15,8 @@
 // value, and 12 for an answer: the refusal's number in a byte, the channel and the index of refusal 8
 // and the number of cuts in two each.
 //
-// Standard input was made by
-//
-//     target/vectors_searches > crates/replay_pelt/stdin
-//
-// where the first lines of `tests/vectors/searches.rs` say how that program is built, and what a record
-// is made of.
+// `tests/vectors/run` makes standard input; the first lines of `tests/vectors/searches.rs` say what
+// a record is made of.
 mod answers;
 mod calls;
 mod lent;

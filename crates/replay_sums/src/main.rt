@@ -13,12 +13,8 @@
 //     12 to 14  the penalty by BIC for L2 and for Normal, and a custom one
 //     15 to 18  a noise variance, a sum of them, how many lent floats are cleared, and a lent float
 //
-// Standard input was made by
-//
-//     target/vectors_sums > crates/replay_sums/stdin
-//
-// where the first lines of `tests/vectors/sums.rs` say how that program is built, and what a case is
-// made of.
+// `tests/vectors/run` makes standard input; the first lines of `tests/vectors/sums.rs` say what
+// a case is made of.
 mod penalties;
 mod pieces;
 mod runs;
