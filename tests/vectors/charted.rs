@@ -152,8 +152,8 @@ pub fn levels(random: &mut Random, [target, sigma, k, h]: [f64; 4]) -> Vec<(f64,
     levels
 }
 
-/// Run lengths to ask: the marked example of document 01, those about the last reading, and levels for
-/// three settings of each kind and for settings that are refused.
+/// Run lengths to ask: the rules' example, those about the last reading, and levels for three settings of
+/// each kind and for settings that are refused.
 pub fn run_lengths(random: &mut Random) -> Vec<(Settings, f64, bool)> {
     let last = [4094.0, 4095.0, 4095.5, 4096.0].map(|h| [0.0, 1.0, 0.0, h]);
     let mut asked = vec![(Settings::with([0.0, 1.0, 0.5, 5.0]), 3.0, true)];
@@ -170,7 +170,7 @@ pub fn run_lengths(random: &mut Random) -> Vec<(Settings, f64, bool)> {
     asked
 }
 
-/// CUSUM's marked examples of document 01, and then all others.
+/// CUSUM's examples of docs/RULES.md, and then all others.
 pub fn cusum_cases(random: &mut Random) -> Vec<Case> {
     let marked = [vec![3.0; 3], vec![8.0, f64::NAN]];
     let usual = [0.0, 1.0, 0.5, 5.0];
@@ -183,7 +183,7 @@ pub fn cusum_cases(random: &mut Random) -> Vec<Case> {
     cases
 }
 
-/// EWMA's marked example of document 01, and then all others.
+/// EWMA's example of docs/RULES.md, and then all others.
 pub fn ewma_cases(random: &mut Random) -> Vec<Case> {
     let marked = [3.0, 3.5].map(|reading| (Settings::with([0.0, 1.0, 1.0, 3.0]), vec![reading]));
     let mut cases: Vec<Case> = marked.into_iter().collect();

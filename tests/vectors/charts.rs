@@ -1,21 +1,10 @@
-//! Writes stored answers of the Rust's charts to standard output, some 400 series of each, and run
-//! lengths of CUSUM charts. The crates `replay_cusum` and `replay_ewma` have them as their standard
-//! input:
+//! Writes stored answers of the Rust's charts, some 400 series of each, and run lengths of CUSUM charts:
+//! by the word `cusum` the standard input of the crate `replay_cusum`, and by `ewma` that of `replay_ewma`.
+//! `tests/vectors/run` makes them.
 //!
-//!     mkdir -p target
-//!     rustc --edition 2021 -O --crate-type rlib --crate-name cusum -o target/libcusum.rlib \
-//!         "$U_ANALYTICS/src/detection/cusum.rs"
-//!     rustc --edition 2021 -O --crate-type rlib --crate-name ewma -o target/libewma.rlib \
-//!         "$U_ANALYTICS/src/detection/ewma.rs"
-//!     rustc --edition 2021 -O --extern cusum=target/libcusum.rlib \
-//!         --extern ewma=target/libewma.rlib tests/vectors/charts.rs -o target/vectors_charts
-//!     target/vectors_charts cusum > crates/replay_cusum/stdin
-//!     target/vectors_charts ewma > crates/replay_ewma/stdin
-//!
-//! U_ANALYTICS is a checkout of iyulab/u-analytics at commit 4f64bede7f. Its files are compiled as
-//! they are, so every answer is the unmodified Rust's. What the program wrote, and for an EWMA chart
-//! how many of the powers that it asked differ from the rule of document 01, it says on standard
-//! error.
+//! The files of the Rust are compiled as they are, so every answer is the unmodified Rust's. What the
+//! program wrote, and for an EWMA chart how many of the powers that it asked differ from the rule of
+//! docs/RULES.md, it says on standard error.
 //!
 //! Numbers have their highest byte first, and values are bit patterns, every NaN of an answer as
 //! 7ff8000000000000. A case begins with a letter and the four settings, 8 bytes each.
@@ -149,7 +138,7 @@ fn write_cusum(out: &mut impl Write, random: &mut Random) -> io::Result<()> {
     write_run_lengths(out, random)
 }
 
-/// How many of the powers that the charts ask differ from those of document 01's rule.
+/// How many of the powers that the charts ask differ from the rule.
 fn report_powers(cases: &[Case]) {
     let (mut powers, mut differ) = (0, 0);
     for (settings, readings) in cases

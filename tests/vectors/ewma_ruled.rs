@@ -9,7 +9,7 @@ trait RulePower {
 }
 
 impl RulePower for f64 {
-    /// By document 01's rule. A chart asks for no negative exponent.
+    /// By the rule of docs/RULES.md. A chart asks for no negative exponent.
     fn rule_powi(self, n: i32) -> f64 {
         rules::powi(self, n.try_into().expect("an exponent from 0 up"))
     }

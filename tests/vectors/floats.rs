@@ -1,15 +1,13 @@
-//! Writes the stored cases of the float functions to standard output: 5,000 or more of each kind of
-//! input for square root, whole power and logarithm, and 500 for the others. The crate `replay_floats` has them as its standard input:
-//!
-//!     mkdir -p target
-//!     rustc -O tests/vectors/floats.rs -o target/vectors_floats
-//!     target/vectors_floats > crates/replay_floats/stdin
+//! Writes the stored cases of the float functions: 5,000 or more of each kind of input for square root,
+//! whole power and logarithm, and 500 for the others. The crate `replay_floats` has them as its standard
+//! input. `tests/vectors/run` makes them.
 //!
 //! A case is 25 bytes: `s` for sqrt, `p` for powi, `l` for ln, `x` for max, `m` for min, `a` for abs
 //! or `f` for finite, and then three numbers of 8 bytes, the highest byte first: the bit pattern of
 //! x; the exponent, or the bit pattern of the second value, or 0; and the bit pattern of the result,
-//! for finite that of 1 or 0. Roots, magnitudes and what is finite are the platform's, which IEEE 754
-//! fixes to the bit; it does not fix the others, so they are by the rules of document 01.
+//! for finite that of 1 or 0. A NaN among the results is 7ff8000000000000. Roots, magnitudes and what is
+//! finite are the platform's, which IEEE 754 fixes to the bit; it does not fix the others, so they are by
+//! docs/RULES.md.
 
 #[allow(dead_code)]
 mod inputs;

@@ -1,17 +1,8 @@
 //! Writes the predecessors of two functional searches by the Rust's own `partition_functional`, of
 //! ramps with a high penalty, in which candidates lose inside more than 64 balls. The crate
-//! `replay_functional` has them as its standard output:
+//! `replay_functional` has them as its standard output. `tests/vectors/run` makes them.
 //!
-//!     mkdir -p target
-//!     cat "$U_ANALYTICS/src/detection/pelt.rs" tests/vectors/pelt_opened.rs > target/pelt_opened.rs
-//!     rustc --edition 2021 -O --crate-type rlib --crate-name pelt_opened \
-//!         -o target/libpelt_opened.rlib target/pelt_opened.rs
-//!     rustc --edition 2021 -O --extern pelt_opened=target/libpelt_opened.rlib \
-//!         tests/vectors/functional.rs -o target/vectors_functional
-//!     target/vectors_functional > crates/replay_functional/stdout
-//!
-//! U_ANALYTICS is a checkout of iyulab/u-analytics at commit 4f64bede7f. With 110 slots no search is
-//! refused, so each begins with the line `slots enough`.
+//! With 110 slots no search is refused, so each begins with the line `slots enough`.
 
 use pelt_opened::opened_functional;
 

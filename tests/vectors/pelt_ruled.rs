@@ -15,7 +15,7 @@ trait RuleLogarithm {
 }
 
 impl RuleLogarithm for f64 {
-    /// By document 01's rule.
+    /// By the rule of docs/RULES.md.
     fn rule_ln(self) -> f64 {
         rules::ln(self)
     }
@@ -43,8 +43,8 @@ pub struct Ruled {
     pub peak: usize,
 }
 
-/// A search by document 01's logarithm. `nan_above` says whether a radius that is NaN counts as above all
-/// numbers, as document 01 has it, or by its sign, as `total_cmp` has it.
+/// A search by the rules' logarithm. `nan_above` says whether a radius that is NaN counts as above all
+/// numbers, as docs/RULES.md has it, or by its sign, as `total_cmp` has it.
 pub fn ruled(pelt: &Pelt, signals: &[&[f64]], nan_above: bool) -> Ruled {
     NAN_ABOVE.store(nan_above, Relaxed);
     PEAK.store(0, Relaxed);

@@ -1,5 +1,5 @@
 //! The functions that only choose a value or clear a sign: max, min, abs and finite. Their inputs, and
-//! what document 01 says of max and min.
+//! what docs/RULES.md says of max and min.
 
 use crate::inputs::{any_patterns, extremes, not_numbers, Kind, Random};
 

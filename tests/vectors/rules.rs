@@ -1,4 +1,4 @@
-//! Document 01's rules for whole powers and the logarithm, in Rust. They are written from the text
+//! The rules of docs/RULES.md for whole powers and the logarithm, in Rust. They are written from the text
 //! alone, in its order of operations, so that they do not repeat a mistake of ours.
 
 /// The bit pattern of `x`. NaNs count as one value, so every NaN has the same one. The test is on the

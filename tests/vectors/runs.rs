@@ -57,8 +57,8 @@ impl Run {
 }
 
 /// The same with quiet NaNs, of every sign and payload. What the Rust's `f64::min` and `f64::max` make of
-/// a signalling one is open, and on some platforms it is NaN where they pass over a quiet one; document
-/// 01 counts NaNs as one value.
+/// a signalling one is open, and on some platforms it is NaN where they pass over a quiet one; by
+/// docs/RULES.md NaNs count as one value.
 pub fn quiet(readings: Vec<f64>) -> Vec<f64> {
     let quieted = |x: f64| match x.is_nan() {
         true => f64::from_bits(x.to_bits() | 1 << 51),

@@ -1,25 +1,10 @@
-//! Writes stored answers of searches. The crate `replay_pelt` has them as its standard input:
+//! Writes stored answers of searches. The crate `replay_pelt` has them as its standard input.
+//! `tests/vectors/run` makes them.
 //!
-//!     mkdir -p target
-//!     PELT="$U_ANALYTICS/src/detection/pelt.rs"
-//!     rustc --edition 2021 -O --crate-type rlib --crate-name pelt -o target/libpelt.rlib "$PELT"
-//!     sed -e 's/\.ln()/.rule_ln()/' \
-//!         -e 's/x\.1 \.1\.total_cmp(&y\.1 \.1)/rank(x.1 .1).total_cmp(\&rank(y.1 .1))/' \
-//!         -e 's/let mut centre = vec!.*/& note_living(alive.len());/' \
-//!         -e 's/alive\.push(born);/& note_living(alive.len());/' \
-//!         "$PELT" | cat - tests/vectors/pelt_ruled.rs > target/pelt_ruled.rs
-//!     rustc --edition 2021 -O --crate-type rlib --crate-name pelt_ruled \
-//!         -o target/libpelt_ruled.rlib target/pelt_ruled.rs
-//!     rustc --edition 2021 -O --extern pelt=target/libpelt.rlib \
-//!         --extern pelt_ruled=target/libpelt_ruled.rlib \
-//!         tests/vectors/searches.rs -o target/vectors_searches
-//!     target/vectors_searches > crates/replay_pelt/stdin
-//!
-//! U_ANALYTICS is a checkout of iyulab/u-analytics at commit 4f64bede7f. The cuts of L2 searches with a
-//! custom penalty are the unmodified Rust's; those by BIC and for Normal are of a copy whose `ln` is
-//! document 01's rule. The copy also counts the candidates that live at once, which decides refusal 9.
-//! Refusals 1 to 8 are document 01's, stated in `calls.rs` on their own. What the program wrote, and what
-//! it left out, it says on standard error.
+//! The cuts of L2 searches with a custom penalty are the unmodified Rust's; those by BIC and for Normal are
+//! of a copy whose `ln` is the rule of docs/RULES.md (`tests/vectors/rust.sh` makes the copy). The copy also
+//! counts the candidates that live at once, which decides refusal 9. Refusals 1 to 8 are stated in
+//! `calls.rs` on their own. What the program wrote, and what it left out, it says on standard error.
 //!
 //! Numbers have their highest byte first, and values are bit patterns. A record begins with a letter.
 //!

@@ -1,5 +1,6 @@
 //! The settings and the series on which the charts' answers are stored. A kind is a function that
-//! makes one of its sort; all draw from one generator, so every run makes the same.
+//! makes one of its sort; all draw from one generator, so every run makes the same. A NaN among the
+//! readings has a pattern that was drawn, or is `sum`'s, so it is the same on every processor.
 
 use crate::inputs::{extremes, not_numbers, Random};
 
@@ -221,8 +222,8 @@ fn noise(random: &mut Random, centre: f64, scale: f64, count: usize) -> Vec<f64>
     (0..count).map(|_| centre + scale * bell(random)).collect()
 }
 
-/// Two values added. Infinity less infinity is stored as this NaN: a processor's own has the sign bit on
-/// x86-64 and not on Arm.
+/// Two values that are not NaN, added. Infinity less infinity is 7ff8000000000000: a processor's own NaN
+/// has the sign bit on x86-64 and not on Arm.
 fn sum(x: f64, y: f64) -> f64 {
     match x.is_infinite() && x == -y {
         true => f64::NAN,
@@ -243,9 +244,7 @@ fn stepped(random: &mut Random, centre: f64, scale: f64, count: usize) -> Vec<f6
 fn drifting(random: &mut Random, centre: f64, scale: f64, count: usize) -> Vec<f64> {
     let slope = scale * between(random, -0.2, 0.2);
     let readings = noise(random, centre, scale, count).into_iter().enumerate();
-    readings
-        .map(|(at, x)| sum(x, slope * at as f64))
-        .collect()
+    readings.map(|(at, x)| sum(x, slope * at as f64)).collect()
 }
 
 /// The centre and up to three times the scale away from it, in halves.

@@ -1,18 +1,8 @@
-//! Writes stored answers of the Rust's sums, ranges, L2 costs and noise variances, of the piece
-//! summaries that follow from them, and of Normal costs and penalties by document 01's logarithm. The
-//! crate `replay_sums` has them as its standard input:
+//! Writes stored answers of the Rust's sums, ranges, L2 costs and noise variances, of the piece summaries
+//! that follow from them, and of Normal costs and penalties by the logarithm of docs/RULES.md. The crate
+//! `replay_sums` has them as its standard input. `tests/vectors/run` makes them.
 //!
-//!     mkdir -p target
-//!     cat "$U_ANALYTICS/src/detection/pelt.rs" tests/vectors/pelt_opened.rs > target/pelt_opened.rs
-//!     rustc --edition 2021 -O --crate-type rlib --crate-name pelt_opened \
-//!         -o target/libpelt_opened.rlib target/pelt_opened.rs
-//!     rustc --edition 2021 -O --extern pelt_opened=target/libpelt_opened.rlib \
-//!         tests/vectors/sums.rs -o target/vectors_sums
-//!     target/vectors_sums > crates/replay_sums/stdin
-//!
-//! U_ANALYTICS is a checkout of iyulab/u-analytics at commit 4f64bede7f.
-//!
-//! Numbers have their highest byte first, and values are bit patterns, every NaN as
+//! Numbers have their highest byte first, and values are bit patterns, every NaN but a reading's as
 //! 7ff8000000000000. A case begins with 33 bytes: a letter and four values.
 //!
 //! `s`, a piece: its mean, its spread, its L2 cost and its Normal cost. Then the channel: the number of
@@ -64,7 +54,7 @@ fn write_short(out: &mut impl Write, n: usize) -> io::Result<()> {
     out.write_all(&short.to_be_bytes())
 }
 
-/// The Normal cost of a segment, from its L2 cost, with the logarithm of document 01.
+/// The Normal cost of a segment, from its L2 cost, with the rules' logarithm.
 fn normal_cost(l2: f64, length: f64) -> f64 {
     let variance = l2 / length;
     match variance <= 0.0 {
