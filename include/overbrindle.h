@@ -1,12 +1,17 @@
-/* Overbrindle for C and for every language that calls C.
+/* Overbrindle for C and for every language that calls C: change detection and control charts whose
+ * every answer is proved.
  *
- * Change detection and control charts whose every answer is proved. `rt staticlib desk` proves the
- * library and writes target/staticlib/libdesk.a, for x86-64 Linux. It needs memcpy and memset of the C
- * library and nothing else:
+ * How to build
  *
- *     cc -Iinclude program.c target/staticlib/libdesk.a -o program
+ * tools/library writes target/library/liboverbrindle.a for this machine: on x86-64 Linux the archive of
+ * `rt staticlib desk`, elsewhere the same module compiled for the processor. It needs memcpy and memset
+ * of the C library and nothing else:
  *
- * How to call it
+ *     cc -Iinclude program.c target/library/liboverbrindle.a -o program
+ *
+ * This header is C99 and C++11, for machines whose size_t has 64 bits.
+ *
+ * How to call
  *
  * - A slice is a pointer and the number of its elements. The pointer is never null and is aligned,
  *   also where there are no elements; the elements are initialised. A pointer to a single result
@@ -19,6 +24,9 @@
  * - This is all that a caller has to see to: sizes, settings and readings are checked, and nothing is
  *   allocated or kept. Any number of threads may call at once, on areas of their own. A call needs
  *   less than 4,096 bytes of stack.
+ *
+ * What comes back
+ *
  * - A call returns 0 with an answer, and otherwise the number of the refusal:
  *
  *      1 Penalty    a custom penalty is not finite or not above 0
@@ -29,25 +37,47 @@
  *      6 TooLong    more than 4,096 readings a channel
  *      7 Room       a slice is shorter than said below
  *      8 NonFinite  a reading or level is NaN or infinite (strict search and run length only)
- *      9 Pool       the functional search needs more candidate slots than the pool has
- *     10 Form       a number that stands for no cost, penalty or side; tried first
+ *      9 Pool       L2 on one or two channels needs more slots than the pool has
+ *     10 Form       a number that stands for no cost, penalty or side
  *     11 Chart      a chart setting is out of range
  *     12 Piece      a piece whose start is not below its end, or whose end is past the channel
  *
- * - Single results are written on every call, and are 0 on a refusal, but for the channel and the index
- *   of 8.
+ * - Refusals are tried in a fixed order, and the first that holds is given:
+ *
+ *     both searches                10, then 1 to 9
+ *     records and signal points    11, 6, 7
+ *     run length                   10, 11, 8
+ *     piece summary                6, 12
+ *
+ * - Single results are written on every call. On a refusal they are 0, but for the channel and the
+ *   index of a search's 8, both counted from 0: the lowest channel with such a reading, and there the
+ *   lowest index.
+ * - A refusal changes no slice, but for 9, which leaves work areas zero, as an answer does.
  * - What each call answers and leaves is proved to equal definitions; docs/PROMISES.md names them.
  *
- * A search over two channels of four readings
+ * An example: two channels of four readings, of which the first changes half way
  *
- *     double readings[] = {0, 0, 4, 4,  1, 1, 1, 1};
- *     size_t lengths[] = {4, 4}, cuts[2], indices[15], count, channel, index;
- *     double floats[30], pool[40 * OVERBRINDLE_SLOT];
- *     ... (set floats, indices, pool and cuts to anything, once)
- *     if (overbrindle_detect_multi_strict(OVERBRINDLE_L2, OVERBRINDLE_CUSTOM, 1.0, 2, readings, 8,
- *             lengths, 2, cuts, 2, floats, 30, indices, 15, pool, 40 * OVERBRINDLE_SLOT,
- *             &count, &channel, &index) == 0)
- *         ... count is 1 and cuts[0] is 2: a piece of readings 0 and 1, and one of 2 and 3
+ *     #include <stdio.h>
+ *     #include "overbrindle.h"
+ *
+ *     int main(void) {
+ *         double readings[] = {0, 0, 4, 4,  1, 1, 1, 1};
+ *         size_t lengths[] = {4, 4}, cuts[2] = {0}, indices[15] = {0}, count, channel, index, i;
+ *         double floats[30] = {0}, pool[4 * OVERBRINDLE_SLOT] = {0};
+ *         uint32_t refusal = overbrindle_detect_multi_strict(OVERBRINDLE_L2, OVERBRINDLE_CUSTOM, 1.0, 2,
+ *             readings, 8, lengths, 2, cuts, 2, floats, 30, indices, 15,
+ *             pool, 4 * OVERBRINDLE_SLOT, &count, &channel, &index);
+ *         if (refusal != 0) {
+ *             printf("refused %u, channel %zu, index %zu\n", (unsigned)refusal, channel, index);
+ *             return 1;
+ *         }
+ *         for (i = 0; i < count; i++) printf("a new piece begins at %zu\n", cuts[i]);
+ *         return 0;
+ *     }
+ *
+ * prints
+ *
+ *     a new piece begins at 2
  */
 #ifndef OVERBRINDLE_H
 #define OVERBRINDLE_H
@@ -59,19 +89,26 @@
 extern "C" {
 #endif
 
+/* The library counts in 64 bits; a size_t of another width is an error here that names this type. */
+typedef char overbrindle_needs_a_size_t_of_64_bits[sizeof(size_t) == 8 ? 1 : -1];
+
 enum { OVERBRINDLE_L2 = 0, OVERBRINDLE_NORMAL = 1 };     /* cost */
 enum { OVERBRINDLE_BIC = 0, OVERBRINDLE_CUSTOM = 1 };    /* penalty_kind; BIC does not look at penalty */
 enum { OVERBRINDLE_UPPER = 0, OVERBRINDLE_LOWER = 1 };   /* side */
 enum { OVERBRINDLE_SLOT = 200 };                         /* floats of the pool for one candidate */
 
-/* The cuts of k channels of n readings, which stand one after the other in readings: the indices at
- * which a new piece begins, lowest first, in the front of cuts; the rest of cuts is left.
+/* The cuts of k channels of n readings: the indices at which a new piece begins, lowest first, in the
+ * front of cuts; the rest of cuts is left. The channels stand one after the other in readings, and
+ * lengths has n for each of them. A plain search takes NaN and infinities as they are; a strict one
+ * refuses them. Where there are cuts, every piece has at least min_segment_len readings. *count is the
+ * number of cuts.
  *
- * Room: n/2 cuts, (2k + 2)(n + 1) floats, 3(n + 1) indices. L2 on one or two channels needs a slot of
- * the pool for each candidate that lives at once, else none. From the moment that refusals 1 to 8 and
- * 10 are passed, floats, indices and pool are all zero afterwards; before, nothing is changed.
- * *count is the number of cuts; *channel and *index are those of refusal 8, and else 0.
- * A plain search takes NaN and infinities as they are; a strict one refuses them. */
+ * Room: n/2 cuts, (2k + 2)(n + 1) floats, 3(n + 1) indices. L2 on one or two channels also needs a slot
+ * of the pool for each candidate that lives at once; how many do depends on the readings, and n slots
+ * always suffice. Every other search needs none.
+ *
+ * An answer and refusal 9 leave all elements of floats, indices and pool zero. 9 leaves cuts as they
+ * were, so that the call may be repeated with more slots. */
 uint32_t overbrindle_detect_multi(uint32_t cost, uint32_t penalty_kind, double penalty,
     size_t min_segment_len, const double *readings, size_t readings_len,
     const size_t *lengths, size_t lengths_len, size_t *cuts, size_t cuts_len,
@@ -85,14 +122,17 @@ uint32_t overbrindle_detect_multi_strict(uint32_t cost, uint32_t penalty_kind, d
     double *pool, size_t pool_len, size_t *count, size_t *channel, size_t *index);
 
 /* The number of readings of a channel from start up to end, without end, their mean and their spread
- * (the mean square about the mean). */
+ * (the mean square about the mean). NaN and infinities are taken as they are. The spread can be
+ * negative: rounding can bring that of nearly equal readings a little below 0. */
 uint32_t overbrindle_piece_summary(const double *channel, size_t channel_len,
     size_t start, size_t end, size_t *length, double *mean, double *spread);
 
 /* The records of a chart over n readings, one array a field: signal is 1 or 0, index counts from 0.
- * Each array needs n elements; those past n are left, and a refusal changes none. *count is n.
+ * Each array needs n elements; those past n are left. *count is n.
  * A reading that is not finite is a gap: it carries the sums or the statistic on, without a signal.
- * CUSUM signals where a sum is above h, EWMA where the statistic is outside the limits lcl and ucl. */
+ * CUSUM signals where a sum is above h, EWMA where the statistic is outside the limits lcl and ucl.
+ * Settings, all finite: sigma, h and l_factor above 0, k not below 0, lambda above 0 and at most 1.
+ * Usual ones are k 0.5, h 5, lambda 0.2 and l_factor 3. */
 uint32_t overbrindle_cusum_analyze(double target, double sigma, double k, double h,
     const double *data, size_t data_len, double *s_upper, size_t s_upper_len,
     double *s_lower, size_t s_lower_len, uint8_t *signal, size_t signal_len,
@@ -116,9 +156,9 @@ uint32_t overbrindle_ewma_signal_points(double target, double sigma, double lamb
 uint32_t overbrindle_cusum_run_length(double target, double sigma, double k, double h,
     double level, uint32_t side, size_t *reading);
 
-/* The noise variance of a channel of n readings, as the search with a BIC penalty takes it. It is worked
- * out in the n - 1 elements of area from area[place], which are zero afterwards; NaN, and nothing
- * written, where area has no room for them. */
+/* The noise variance of a channel of n readings, as the search with a BIC penalty takes it; 0 for fewer
+ * than two. It is worked out in the n - 1 elements of area from area[place], which are zero afterwards.
+ * Without room for them the answer is NaN, and nothing is written. */
 double overbrindle_noise_variance(const double *channel, size_t channel_len,
     double *area, size_t area_len, size_t place);
 
