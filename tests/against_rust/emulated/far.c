@@ -4,27 +4,12 @@
 // A call is its number of bytes, a number for the function, and then what it is given, all in words of 8
 // bytes: a number as itself, a slice as how many things it has and then these. The library works on the
 // slices in place. The answer is what the function returns and then the same words again.
-typedef unsigned long word;
-typedef unsigned int u32;
-typedef unsigned char u8;
-typedef double f64;
+#include "overbrindle.h"
 
-u32 overbrindle_detect_multi(u32, u32, f64, word, const f64 *, word, const word *, word, word *, word, f64 *, word,
-                             word *, word, f64 *, word, word *, word *, word *);
-u32 overbrindle_detect_multi_strict(u32, u32, f64, word, const f64 *, word, const word *, word, word *, word, f64 *,
-                                    word, word *, word, f64 *, word, word *, word *, word *);
-u32 overbrindle_piece_summary(const f64 *, word, word, word, word *, f64 *, f64 *);
-u32 overbrindle_cusum_analyze(f64, f64, f64, f64, const f64 *, word, f64 *, word, f64 *, word, u8 *, word, word *,
-                              word, word *);
-u32 overbrindle_cusum_signal_points(f64, f64, f64, f64, const f64 *, word, word *, word, word *);
-u32 overbrindle_cusum_run_length(f64, f64, f64, f64, f64, u32, word *);
-u32 overbrindle_ewma_analyze(f64, f64, f64, f64, const f64 *, word, f64 *, word, f64 *, word, f64 *, word, u8 *,
-                             word, word *, word, word *);
-u32 overbrindle_ewma_signal_points(f64, f64, f64, f64, const f64 *, word, word *, word, word *);
-f64 overbrindle_noise_variance(const f64 *, word, f64 *, word, word);
-f64 overbrindle_sqrt(f64);
-f64 overbrindle_powi(f64, word);
-f64 overbrindle_ln(f64);
+typedef size_t word;
+typedef uint32_t u32;
+typedef uint8_t u8;
+typedef double f64;
 
 // What the library's code may ask for by name.
 void *memset(void *to, int value, word count) {

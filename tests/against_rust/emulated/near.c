@@ -3,23 +3,16 @@
 //
 // The command of the far side is in FAR, words apart by single spaces. What a call may not change, the
 // readings and the lengths, has to come back as it went.
-typedef unsigned long word;
-typedef unsigned int u32;
-typedef unsigned char u8;
-typedef double f64;
+#include <stdlib.h>
+#include <string.h>
+#include <unistd.h>
 
-long read(int, void *, word);
-long write(int, const void *, word);
-int pipe(int *);
-int fork(void);
-int dup2(int, int);
-int close(int);
-int execvp(const char *, char *const *);
-char *getenv(const char *);
-void *memcpy(void *, const void *, word);
-int memcmp(const void *, const void *, word);
-char *strchr(const char *, int);
-void _exit(int);
+#include "overbrindle.h"
+
+typedef size_t word;
+typedef uint32_t u32;
+typedef uint8_t u8;
+typedef double f64;
 
 #define MOST (1 << 21)
 static word sent[MOST], back[MOST + 1];
