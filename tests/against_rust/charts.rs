@@ -4,10 +4,10 @@
 use crate::charted::{self, Answer, Record};
 use crate::faults::Fault;
 use crate::lending::{same_float, same_word, Area, Bytes, Rest, Word};
-use crate::overbrindle::{lent, Cusum, Ewma};
 use crate::rules::pattern;
 use crate::series::Settings;
 use crate::{wrapped, Outcome};
+use overbrindle::lent::{self, CusumSettings, EwmaSettings};
 use std::rc::Rc;
 
 const TOO_LONG: u32 = 6;
@@ -62,9 +62,9 @@ struct Due {
 }
 
 /// The settings as they cross the boundary, whichever constructor the Rust takes them by.
-pub fn cusum(settings: [f64; 4]) -> Cusum {
+pub fn cusum(settings: [f64; 4]) -> CusumSettings {
     let [target, sigma, k, h] = settings;
-    Cusum {
+    CusumSettings {
         target,
         sigma,
         k,
@@ -72,9 +72,9 @@ pub fn cusum(settings: [f64; 4]) -> Cusum {
     }
 }
 
-fn ewma(settings: [f64; 4]) -> Ewma {
+fn ewma(settings: [f64; 4]) -> EwmaSettings {
     let [target, sigma, lambda, l_factor] = settings;
-    Ewma {
+    EwmaSettings {
         target,
         sigma,
         lambda,
@@ -154,8 +154,8 @@ impl Chart {
         Ok(Due { answer, named })
     }
 
-    /// The wrapper sizes the room itself, so it does not meet the refusal of room.
-    fn check_wrapper(&self, due: &Due, fault: Fault) -> Result<(), String> {
+    /// The package sizes the room itself, so it does not meet the refusal of room.
+    fn check_package(&self, due: &Due, fault: Fault) -> Result<(), String> {
         match due.answer {
             Err(ROOM) => wrapped::chart(self, &self.due(&[], fault)?.answer),
             _ => wrapped::chart(self, &due.answer),
@@ -169,7 +169,7 @@ impl Chart {
         let mut said = self.ask(areas);
         damage(fault, self, &mut said, areas);
         self.compare(&due.answer, said, areas)?;
-        self.check_wrapper(&due, fault)?;
+        self.check_package(&due, fault)?;
         let outcome = match &due.answer {
             Err(_) => told(&met),
             Ok(answer) if answer.points.is_empty() => "without a signal".into(),
@@ -185,8 +185,8 @@ impl Chart {
         let [first, second, third] = &mut areas.values;
         let (signal, index) = (areas.signal.bytes(), areas.index.indices());
         match (self.kind, self.points) {
-            (Kind::Cusum, true) => lent::cusum_signal_points(&cusum(self.settings), data, points),
-            (Kind::Ewma, true) => lent::ewma_signal_points(&ewma(self.settings), data, points),
+            (Kind::Cusum, true) => lent::cusum_signal_points(cusum(self.settings), data, points),
+            (Kind::Ewma, true) => lent::ewma_signal_points(ewma(self.settings), data, points),
             (Kind::Cusum, false) => {
                 let areas = lent::CusumAreas {
                     s_upper: first.floats(),
@@ -194,7 +194,7 @@ impl Chart {
                     signal,
                     index,
                 };
-                lent::cusum_analyze(&cusum(self.settings), data, areas)
+                lent::cusum_analyze(cusum(self.settings), data, areas)
             }
             (Kind::Ewma, false) => {
                 let areas = lent::EwmaAreas {
@@ -204,7 +204,7 @@ impl Chart {
                     signal,
                     index,
                 };
-                lent::ewma_analyze(&ewma(self.settings), data, areas)
+                lent::ewma_analyze(ewma(self.settings), data, areas)
             }
         }
     }
@@ -345,7 +345,7 @@ impl RunLength {
                 (0, heard)
             }
         };
-        let mut said = lent::cusum_run_length(&cusum(self.settings), self.level, self.side);
+        let mut said = lent::cusum_run_length(cusum(self.settings), self.level, self.side);
         said.1 += usize::from(fault.is("run length"));
         said.0 += u32::from(fault.is("run length number"));
         if said != due {

@@ -6,7 +6,7 @@
 
 use crate::faults::Fault;
 use crate::inputs::{Kind, Random, LOGARITHM_KINDS, POWER_KINDS, ROOT_KINDS};
-use crate::{overbrindle, rules};
+use crate::rules;
 use std::fmt::Debug;
 
 /// The largest exponent that a chart asks for, twice the place 4,096.

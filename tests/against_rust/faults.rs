@@ -52,7 +52,7 @@ pub const FAULTS: [&str; 48] = [
     "noise",
     "noise area",
     "noise beyond",
-    "wrapper",
+    "package",
     "elementary",
 ];
 

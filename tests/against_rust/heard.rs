@@ -3,8 +3,8 @@
 
 use crate::charts;
 use crate::faults::Fault;
-use crate::overbrindle::{lent, Cusum};
 use crate::Outcome;
+use overbrindle::lent::{self, CusumSettings};
 use std::rc::Rc;
 
 /// A level, which sum is to hear it (0 the upper and 1 the lower), and a series.
@@ -42,7 +42,7 @@ impl Heard {
     pub fn check(&self, fault: Fault) -> Result<Outcome, String> {
         let named = None;
         let chart = charts::cusum(self.settings);
-        let (number, mut run_length) = lent::cusum_run_length(&chart, self.level, self.side);
+        let (number, mut run_length) = lent::cusum_run_length(chart, self.level, self.side);
         if number != 0 || run_length == 0 {
             let outcome = match number {
                 0 => "not heard".into(),
@@ -51,8 +51,8 @@ impl Heard {
             return Ok(Outcome { outcome, named });
         }
         let (mut signals, mut points) = (
-            signals(&chart, &self.readings)?,
-            points(&chart, &self.readings)?,
+            signals(chart, &self.readings)?,
+            points(chart, &self.readings)?,
         );
         if fault.is("heard early") {
             run_length -= 1;
@@ -80,7 +80,7 @@ impl Heard {
 }
 
 /// The signals of the library's records.
-fn signals(chart: &Cusum, readings: &[f64]) -> Result<Vec<u8>, String> {
+fn signals(chart: CusumSettings, readings: &[f64]) -> Result<Vec<u8>, String> {
     let n = readings.len();
     let (mut s_upper, mut s_lower) = (vec![0.0; n], vec![0.0; n]);
     let (mut signal, mut index) = (vec![0; n], vec![0; n]);
@@ -97,7 +97,7 @@ fn signals(chart: &Cusum, readings: &[f64]) -> Result<Vec<u8>, String> {
 }
 
 /// The library's signal points.
-fn points(chart: &Cusum, readings: &[f64]) -> Result<Vec<usize>, String> {
+fn points(chart: CusumSettings, readings: &[f64]) -> Result<Vec<usize>, String> {
     let mut points = vec![0; readings.len()];
     match lent::cusum_signal_points(chart, readings, &mut points) {
         (0, count) if count <= points.len() => {

@@ -23,13 +23,12 @@ mod elementary;
 mod families;
 mod faults;
 mod heard;
+mod in_place;
 #[allow(dead_code)]
 #[path = "../vectors/inputs.rs"]
 mod inputs;
 mod lending;
 mod noises;
-#[allow(dead_code)]
-mod overbrindle;
 #[allow(dead_code)]
 #[path = "../vectors/pieces.rs"]
 mod pieces;

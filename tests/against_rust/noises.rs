@@ -2,9 +2,9 @@
 
 use crate::faults::Fault;
 use crate::lending::{same_word, Area, Rest, Word};
-use crate::overbrindle::lent;
 use crate::rules::pattern;
 use crate::{wrapped, Outcome};
+use overbrindle::lent;
 use std::rc::Rc;
 
 /// The noise variance of a channel, by way of the places from `place` on of an area of this size.

@@ -4,9 +4,9 @@
 use crate::calls::{Answer, Call, Lent};
 use crate::faults::Fault;
 use crate::lending::{same_word, Area, Rest, Word};
-use crate::overbrindle::lent::{self, Said};
-use crate::overbrindle::Refusal;
-use crate::{wrapped, Outcome};
+use crate::wrapped::{self, refused, Refused};
+use crate::Outcome;
+use overbrindle::lent::{self, Said, SearchSettings};
 
 /// The number of the refusal of a number that names no cost or no penalty.
 const FORM: u64 = 10;
@@ -14,7 +14,7 @@ const MIN_LEN: u64 = 2;
 const UNEQUAL: u64 = 5;
 const ROOM: u64 = 7;
 const POOL: u64 = 9;
-/// The most readings with which a call that is refused for its room is asked of the wrapper, which has room:
+/// The most readings with which a call that is refused for its room is asked of the package, which has room:
 /// searches of the longest channels take seconds in an emulator.
 const MOST_ASKED_AGAIN: usize = 512;
 /// What docs/DIFFERENCES.md says of the narrowest ball.
@@ -36,11 +36,11 @@ pub struct Areas {
     pool: Area,
 }
 
-/// What the lent call has to answer, and what the safe wrapper, which meets no refusal of room or pool, if it
-/// is asked.
+/// What the lent call has to answer, and what the package, which meets no refusal of room or pool, if it is
+/// asked.
 struct Due {
     answer: Answer,
-    wrapped: Option<Result<Vec<usize>, Refusal>>,
+    wrapped: Option<Result<Vec<usize>, Refused>>,
     named: Option<&'static str>,
 }
 
@@ -49,11 +49,10 @@ impl Due {
     fn of(answer: Answer) -> Self {
         let wrapped = match answer.refusal {
             0 => Ok(answer.cuts.clone()),
-            number => Err(Refusal {
-                number: number as u32,
-                channel: answer.channel as usize,
-                index: answer.index as usize,
-            }),
+            number => {
+                let place = (answer.channel as usize, answer.index as usize);
+                Err(refused(number as u32, place))
+            }
         };
         let named = None;
         Due {
@@ -84,7 +83,7 @@ impl Search {
         }
     }
 
-    /// Where only the room is refused, the wrapper answers what a call with room does.
+    /// Where only the room is refused, the package answers what a call with room does.
     fn due_to_refusal(&self, answer: Answer) -> Result<Due, String> {
         self.check_refusal(answer.refusal)?;
         let mut due = Due::of(answer);
@@ -154,7 +153,7 @@ impl Search {
         if (before.iter().zip(&after)).any(|(x, y)| x.to_bits() != y.to_bits()) {
             return Err("a reading is changed".into());
         }
-        self.check_wrapper(&due, fault)?;
+        self.check_package(&due, fault)?;
         let answer = due.answer;
         let outcome = match answer.refusal {
             0 if answer.cuts.is_empty() => "no cuts".into(),
@@ -167,37 +166,36 @@ impl Search {
         })
     }
 
-    /// The numbers of the cost and the penalty are the boundary's own, and not by way of the wrapper.
+    /// The numbers of the cost and the penalty are the boundary's own, and not by way of the package.
     fn ask(&self, readings: &[f64], areas: &mut Areas) -> Said {
         let settings = self.call.settings;
         let known = (settings.normal.into(), settings.custom.is_some().into());
-        let (cost, kind) = self.numbers.unwrap_or(known);
+        let (cost, penalty_kind) = self.numbers.unwrap_or(known);
+        let asked = SearchSettings {
+            cost,
+            penalty_kind,
+            penalty: settings.custom.unwrap_or(0.0),
+            min_segment_len: settings.least() as usize,
+        };
         let lent = lent::Areas {
             cuts: areas.cuts.indices(),
             floats: areas.floats.floats(),
             indices: areas.indices.indices(),
             pool: areas.pool.floats(),
         };
-        lent::detect(
-            self.call.strict,
-            (cost, kind, settings.custom.unwrap_or(0.0)),
-            settings.least() as usize,
-            readings,
-            &self.lengths(),
-            lent,
-        )
+        lent::detect(self.call.strict, asked, readings, &self.lengths(), lent)
     }
 
-    /// The wrapper takes channels, so it can't be given lengths that don't add up, nor numbers that name
+    /// The package takes channels, so it can't be given lengths that don't add up, nor numbers that name
     /// no cost or penalty.
-    fn check_wrapper(&self, due: &Due, fault: Fault) -> Result<(), String> {
+    fn check_package(&self, due: &Due, fault: Fault) -> Result<(), String> {
         let call = &self.call;
         let sum: u128 = call.channels().iter().map(|&n| u128::from(n)).sum();
         if self.numbers.is_some() || sum != call.readings.len() as u128 {
             return Ok(());
         }
         match &due.wrapped {
-            Some(_) if fault.is("wrapper") => wrapped::search(call, &Err(wrapped::refused(3))),
+            Some(_) if fault.is("package") => wrapped::search(call, &Err(refused(3, (0, 0)))),
             Some(due) => wrapped::search(call, due),
             None => Ok(()),
         }

@@ -1,10 +1,10 @@
 //! Summaries of pieces: what they have to be, by the Rust's sums and costs, and whether they are.
 
 use crate::faults::Fault;
-use crate::overbrindle::lent;
 use crate::pieces::{Piece, PIECE};
 use crate::rules::pattern;
 use crate::{wrapped, Outcome};
+use overbrindle::lent;
 
 const TOO_LONG: u32 = 6;
 const MOST_READINGS: usize = 4096;

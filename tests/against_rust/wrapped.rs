@@ -1,193 +1,221 @@
-//! The safe wrapper beside the Rust: what its constructors make, and every field of every answer and of
+//! The package `overbrindle` beside the Rust: which constructors refuse, and every field of every answer and of
 //! every refusal. It sizes the room itself, so it meets neither refusal 7 nor refusal 9: there it has to
 //! answer what the Rust does.
 
 use crate::calls::{self, Call};
 use crate::charted::{Answer, Record};
 use crate::charts::{Chart, Kind, RunLength};
-use crate::overbrindle::{
-    self, CostFunction, Cusum, CusumResult, Ewma, EwmaResult, Pelt, Penalty, PieceSummary, Refusal,
-    Side,
-};
+use crate::in_place;
 use crate::pieces::Piece;
 use crate::rules::pattern;
 use crate::series::Settings;
+use overbrindle::{
+    CostFunction, Cusum, CusumResult, Ewma, EwmaResult, MultiPeltResult, Pelt, PeltResult, Penalty,
+    PieceSummary, Refusal, Side,
+};
 use std::fmt::Debug;
 
-/// A refusal without a place.
-pub fn refused(number: u32) -> Refusal {
-    Refusal {
-        number,
-        channel: 0,
-        index: 0,
+/// The refusals that are due to settings.
+const OF_SETTINGS: [u32; 3] = [1, 2, 11];
+const NON_FINITE: u32 = 8;
+
+/// A refusal by its number, with the place of the reading where the number is 8.
+pub type Refused = (u32, Option<(usize, usize)>);
+
+/// A refusal of this number, with this place if it has one.
+pub fn refused(number: u32, place: (usize, usize)) -> Refused {
+    (number, (number == NON_FINITE).then_some(place))
+}
+
+fn told(refusal: Refusal) -> Refused {
+    (refusal.number(), refusal.place())
+}
+
+/// What a call of the package said has to be what is due.
+pub fn same<T: PartialEq + Debug>(what: &str, found: T, due: T) -> Result<(), String> {
+    match found == due {
+        true => Ok(()),
+        false => Err(format!("the package's {what}: {found:x?} and not {due:x?}")),
     }
 }
 
-/// What a call of the wrapper said has to be what is due.
-fn same<T: PartialEq + Debug>(what: &str, found: T, due: T) -> Result<(), String> {
-    match found == due {
-        true => Ok(()),
-        false => Err(format!("the wrapper's {what}: {found:x?} and not {due:x?}")),
+/// Whether settings are refused where this is due.
+pub fn by_settings<T>(due: &Result<T, Refused>) -> bool {
+    matches!(due, Err((number, _)) if OF_SETTINGS.contains(number))
+}
+
+/// What a constructor made: the refusals of settings are its own, and it has no others.
+fn made<T, D>(
+    what: &str,
+    made: Result<T, Refusal>,
+    due: &Result<D, Refused>,
+) -> Result<Option<T>, String> {
+    let due = due.as_ref().err().filter(|_| by_settings(due));
+    let found = made.as_ref().err().map(|&refusal| told(refusal));
+    same(what, found.as_ref(), due)?;
+    Ok(made.ok())
+}
+
+pub fn cost(settings: calls::Settings) -> CostFunction {
+    match settings.normal {
+        true => CostFunction::Normal,
+        false => CostFunction::L2,
     }
+}
+
+pub fn penalty(settings: calls::Settings) -> Penalty {
+    settings.custom.map_or(Penalty::Bic, Penalty::Custom)
 }
 
 /// A search as the Rust makes it with these settings: by `new`, or with a minimum length.
-fn pelt(settings: calls::Settings) -> Result<Pelt, String> {
-    let cost = match settings.normal {
-        true => CostFunction::Normal,
-        false => CostFunction::L2,
-    };
-    let penalty = settings.custom.map_or(Penalty::Bic, Penalty::Custom);
-    let (made, by) = match settings.given {
-        None => (Pelt::new(cost, penalty), "new"),
-        Some(least) => (
-            Pelt::with_min_segment_len(cost, penalty, least as usize),
-            "with_min_segment_len",
-        ),
-    };
-    let bits = |penalty: Penalty| match penalty {
-        Penalty::Bic => None,
-        Penalty::Custom(value) => Some(pattern(value)),
-    };
-    let fields = |p: Pelt| (p.cost, bits(p.penalty), p.min_segment_len as u64);
-    let due = (cost, bits(penalty), settings.least());
-    same(&format!("search by {by}"), fields(made), due)?;
-    Ok(made)
+fn pelt(settings: calls::Settings) -> Result<Pelt, Refusal> {
+    let (cost, penalty) = (cost(settings), penalty(settings));
+    match settings.given {
+        None => Pelt::new(cost, penalty),
+        Some(least) => Pelt::with_min_segment_len(cost, penalty, least as usize),
+    }
 }
 
-/// The search by the one of four functions that the call means.
-pub fn search(call: &Call, due: &Result<Vec<usize>, Refusal>) -> Result<(), String> {
-    let pelt = pelt(call.settings)?;
-    let (what, found) = match (call.multi, call.strict) {
-        (false, false) => ("detect", pelt.detect(&call.readings)),
-        (false, true) => ("detect_strict", pelt.detect_strict(&call.readings)),
-        (true, false) => ("detect_multi", pelt.detect_multi(&call.signals())),
-        (true, true) => (
-            "detect_multi_strict",
-            pelt.detect_multi_strict(&call.signals()),
-        ),
+/// The search by the one of four functions that the call means, and then by module `detection`, which stands
+/// on it and panics where it refuses what it should not.
+pub fn search(call: &Call, due: &Result<Vec<usize>, Refused>) -> Result<(), String> {
+    search_here(call, due)?;
+    in_place::search(call, due)
+}
+
+fn search_here(call: &Call, due: &Result<Vec<usize>, Refused>) -> Result<(), String> {
+    let Some(pelt) = made("search", pelt(call.settings), due)? else {
+        return Ok(());
     };
-    same(what, &found, due)
+    let one = |found: PeltResult| found.changepoints;
+    let several = |found: MultiPeltResult| found.changepoints;
+    let (readings, signals) = (&call.readings[..], call.signals());
+    let (what, found) = match (call.multi, call.strict) {
+        (false, false) => ("detect", pelt.detect(readings).map(one)),
+        (false, true) => ("detect_strict", pelt.detect_strict(readings).map(one)),
+        (true, false) => ("detect_multi", pelt.detect_multi(&signals).map(several)),
+        (true, true) => {
+            let found = pelt.detect_multi_strict(&signals);
+            ("detect_multi_strict", found.map(several))
+        }
+    };
+    same(what, &found.map_err(told), due)
 }
 
 /// What a chart made of one reading, with the bits of its values.
-type Row = (Vec<u64>, bool, usize);
+pub type Row = (Vec<u64>, bool, usize);
 
 fn due_row(record: &Record) -> Row {
     let values = record.values.iter().map(|&value| pattern(value)).collect();
     (values, record.signal, record.index)
 }
 
-fn cusum_row(r: &CusumResult) -> Row {
+pub fn cusum_row(r: &CusumResult) -> Row {
     let values = [r.s_upper, r.s_lower].map(pattern).to_vec();
     (values, r.signal, r.index)
 }
 
-fn ewma_row(r: &EwmaResult) -> Row {
+pub fn ewma_row(r: &EwmaResult) -> Row {
     let values = [r.ewma, r.ucl, r.lcl].map(pattern).to_vec();
     (values, r.signal, r.index)
 }
 
 /// A chart as the Rust makes it with these settings: by `new`, or with parameters.
-fn cusum(settings: &Settings) -> Result<Cusum, String> {
+fn cusum(settings: &Settings) -> Result<Cusum, Refusal> {
     let [target, sigma, k, h] = settings.values;
-    let (made, by) = match settings.by_new {
-        true => (Cusum::new(target, sigma), "new"),
-        false => (Cusum::with_params(target, sigma, k, h), "with_params"),
-    };
-    let fields = [made.target, made.sigma, made.k, made.h].map(pattern);
-    same(
-        &format!("CUSUM by {by}"),
-        fields,
-        settings.values.map(pattern),
-    )?;
-    Ok(made)
+    match settings.by_new {
+        true => Cusum::new(target, sigma),
+        false => Cusum::with_params(target, sigma, k, h),
+    }
 }
 
-fn ewma(settings: &Settings) -> Result<Ewma, String> {
+fn ewma(settings: &Settings) -> Result<Ewma, Refusal> {
     let [target, sigma, lambda, l_factor] = settings.values;
-    let (made, by) = match settings.by_new {
-        true => (Ewma::new(target, sigma), "new"),
-        false => (
-            Ewma::with_params(target, sigma, lambda, l_factor),
-            "with_params",
-        ),
-    };
-    let fields = [made.target, made.sigma, made.lambda, made.l_factor].map(pattern);
-    same(
-        &format!("EWMA by {by}"),
-        fields,
-        settings.values.map(pattern),
-    )?;
-    Ok(made)
+    match settings.by_new {
+        true => Ewma::new(target, sigma),
+        false => Ewma::with_params(target, sigma, lambda, l_factor),
+    }
 }
 
-/// The records of a chart, each with all of its fields.
-fn records(chart: &Chart) -> Result<Result<Vec<Row>, Refusal>, String> {
-    let (settings, readings) = (chart.made_with(), &chart.readings[..]);
-    Ok(match chart.kind {
-        Kind::Cusum => {
-            let records = cusum(&settings)?.analyze(readings);
-            records.map(|records| records.iter().map(cusum_row).collect())
-        }
-        Kind::Ewma => {
-            let records = ewma(&settings)?.analyze(readings);
-            records.map(|records| records.iter().map(ewma_row).collect())
-        }
-    })
+/// What a chart answers: its records, each with all of its fields, or its signal points.
+#[derive(Debug, PartialEq)]
+pub enum Charted {
+    Records(Vec<Row>),
+    Points(Vec<usize>),
 }
 
-fn points(chart: &Chart) -> Result<Result<Vec<usize>, Refusal>, String> {
-    let (settings, readings) = (chart.made_with(), &chart.readings[..]);
-    Ok(match chart.kind {
-        Kind::Cusum => cusum(&settings)?.signal_points(readings),
-        Kind::Ewma => ewma(&settings)?.signal_points(readings),
-    })
-}
-
-/// The first place at which the records differ says more than all of them.
-fn same_records(
-    found: Result<Vec<Row>, Refusal>,
-    due: Result<Vec<Row>, Refusal>,
-) -> Result<(), String> {
-    if let (Ok(found), Ok(due)) = (&found, &due) {
-        same("number of records", found.len(), due.len())?;
+impl Charted {
+    /// The first place at which records differ says more than all of them.
+    pub fn compare(&self, name: &str, due: &Charted) -> Result<(), String> {
+        let (Charted::Records(found), Charted::Records(due)) = (self, due) else {
+            return same(&format!("{name}signal_points"), self, due);
+        };
+        same(&format!("{name}number of records"), found.len(), due.len())?;
         for (at, (found, due)) in found.iter().zip(due).enumerate() {
-            same(&format!("record {at}"), found, due)?;
+            same(&format!("{name}record {at}"), found, due)?;
         }
-        return Ok(());
+        Ok(())
     }
-    same(
-        "analyze",
-        found.map(|records| records.len()),
-        due.map(|records| records.len()),
-    )
 }
 
-/// The chart's records or its signal points, whichever the case asks for.
+fn cusum_charted(chart: &Cusum, points: bool, readings: &[f64]) -> Result<Charted, Refusal> {
+    Ok(match points {
+        true => Charted::Points(chart.signal_points(readings)?),
+        false => Charted::Records(chart.analyze(readings)?.iter().map(cusum_row).collect()),
+    })
+}
+
+fn ewma_charted(chart: &Ewma, points: bool, readings: &[f64]) -> Result<Charted, Refusal> {
+    Ok(match points {
+        true => Charted::Points(chart.signal_points(readings)?),
+        false => Charted::Records(chart.analyze(readings)?.iter().map(ewma_row).collect()),
+    })
+}
+
+/// What the package makes of a chart, if its constructor makes it.
+fn charted(
+    chart: &Chart,
+    due: &Result<Charted, Refused>,
+) -> Result<Option<Result<Charted, Refusal>>, String> {
+    let (settings, points, readings) = (chart.made_with(), chart.points, &chart.readings[..]);
+    Ok(match chart.kind {
+        Kind::Cusum => made("CUSUM", cusum(&settings), due)?
+            .map(|chart| cusum_charted(&chart, points, readings)),
+        Kind::Ewma => {
+            made("EWMA", ewma(&settings), due)?.map(|chart| ewma_charted(&chart, points, readings))
+        }
+    })
+}
+
+/// The chart's records or its signal points, whichever the case asks for, and then by module `detection`.
 pub fn chart(chart: &Chart, due: &Result<Answer, u32>) -> Result<(), String> {
-    let due = due.as_ref().map_err(|&number| refused(number));
-    if chart.points {
-        let found = points(chart)?;
-        return same(
-            "signal_points",
-            found,
-            due.map(|answer| answer.points.clone()),
-        );
-    }
-    let rows = |answer: &Answer| answer.records.iter().map(due_row).collect();
-    same_records(records(chart)?, due.map(rows))
+    let due = match due {
+        Ok(answer) if chart.points => Ok(Charted::Points(answer.points.clone())),
+        Ok(answer) => Ok(Charted::Records(
+            answer.records.iter().map(due_row).collect(),
+        )),
+        Err(number) => Err(refused(*number, (0, 0))),
+    };
+    match (charted(chart, &due)?, &due) {
+        (None, _) => Ok(()),
+        (Some(Ok(found)), Ok(due)) => found.compare("", due),
+        (Some(found), due) => same("chart", &found.map_err(told), due),
+    }?;
+    in_place::chart(chart, &due)
 }
 
 /// The reading at which the level is heard, 0 for none, or the number of the refusal.
 pub fn run_length(asked: &RunLength, (number, reading): (u32, usize)) -> Result<(), String> {
-    let side = [Side::Upper, Side::Lower][asked.side as usize];
-    let found = cusum(&asked.made_with())?.run_length(asked.level, side);
     let due = match number {
         0 => Ok((reading > 0).then_some(reading)),
-        _ => Err(refused(number)),
+        _ => Err(refused(number, (0, 0))),
     };
-    same("run_length", found, due)
+    let Some(chart) = made("CUSUM", cusum(&asked.made_with()), &due)? else {
+        return Ok(());
+    };
+    let side = [Side::Upper, Side::Lower][asked.side as usize];
+    let found = chart.run_length(asked.level, side);
+    same("run_length", found.map_err(told), due)
 }
 
 /// The number of the refusal, or 0; length, mean and spread.
@@ -196,9 +224,9 @@ pub fn piece(piece: &Piece, due: (u32, usize, u64, u64)) -> Result<(), String> {
     let fields = |s: PieceSummary| (s.length, pattern(s.mean), pattern(s.spread));
     let due = match due {
         (0, length, mean, spread) => Ok((length, mean, spread)),
-        (number, ..) => Err(refused(number)),
+        (number, ..) => Err(refused(number, (0, 0))),
     };
-    same("piece_summary", found.map(fields), due)
+    same("piece_summary", found.map(fields).map_err(told), due)
 }
 
 pub fn noise(readings: &[f64], due: u64) -> Result<(), String> {

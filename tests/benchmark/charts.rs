@@ -1,11 +1,24 @@
 //! Whole calls of charts, and noise variances, in room that is lent once.
 
 use crate::inputs::Random;
-use crate::overbrindle::lent::{self, CusumAreas, EwmaAreas};
-use crate::overbrindle::{Cusum, Ewma};
 use crate::series::fraction;
 use crate::timing::{Best, Row};
+use overbrindle::lent::{self, CusumAreas, CusumSettings, EwmaAreas, EwmaSettings};
 use std::hint::black_box;
+
+/// What the Rust's `new` makes of target 0 and sigma 1.
+const CUSUM: CusumSettings = CusumSettings {
+    target: 0.0,
+    sigma: 1.0,
+    k: 0.5,
+    h: 5.0,
+};
+const EWMA: EwmaSettings = EwmaSettings {
+    target: 0.0,
+    sigma: 1.0,
+    lambda: 0.2,
+    l_factor: 3.0,
+};
 
 /// Noise of about variance 1 that drifts, so that a good part of it signals.
 fn readings(random: &mut Random, n: usize) -> Vec<f64> {
@@ -25,10 +38,7 @@ pub fn rows(best: Best, random: &mut Random, n: usize) -> Vec<Row> {
         let times = best.of(&mut || ours(), &mut || theirs());
         rows.push(Row::new(name, times.0, times.1));
     };
-    let (ours, rust) = (
-        Cusum::new(0.0, 1.0),
-        cusum::Cusum::new(0.0, 1.0).expect("a chart"),
-    );
+    let rust = cusum::Cusum::new(0.0, 1.0).expect("a chart");
     row(
         "CUSUM, analyze",
         &mut || {
@@ -38,7 +48,7 @@ pub fn rows(best: Best, random: &mut Random, n: usize) -> Vec<Row> {
                 signal: &mut signal,
                 index: &mut index,
             };
-            black_box(lent::cusum_analyze(&ours, black_box(&data), areas));
+            black_box(lent::cusum_analyze(CUSUM, black_box(&data), areas));
         },
         &mut || drop(black_box(rust.analyze(black_box(&data)))),
     );
@@ -46,17 +56,14 @@ pub fn rows(best: Best, random: &mut Random, n: usize) -> Vec<Row> {
         "CUSUM, signal points",
         &mut || {
             black_box(lent::cusum_signal_points(
-                &ours,
+                CUSUM,
                 black_box(&data),
                 &mut points,
             ));
         },
         &mut || drop(black_box(rust.signal_points(black_box(&data)))),
     );
-    let (ours, rust) = (
-        Ewma::new(0.0, 1.0),
-        ewma::Ewma::new(0.0, 1.0).expect("a chart"),
-    );
+    let rust = ewma::Ewma::new(0.0, 1.0).expect("a chart");
     row(
         "EWMA, analyze",
         &mut || {
@@ -67,7 +74,7 @@ pub fn rows(best: Best, random: &mut Random, n: usize) -> Vec<Row> {
                 signal: &mut signal,
                 index: &mut index,
             };
-            black_box(lent::ewma_analyze(&ours, black_box(&data), areas));
+            black_box(lent::ewma_analyze(EWMA, black_box(&data), areas));
         },
         &mut || drop(black_box(rust.analyze(black_box(&data)))),
     );
@@ -75,7 +82,7 @@ pub fn rows(best: Best, random: &mut Random, n: usize) -> Vec<Row> {
         "EWMA, signal points",
         &mut || {
             black_box(lent::ewma_signal_points(
-                &ours,
+                EWMA,
                 black_box(&data),
                 &mut points,
             ));

@@ -1,7 +1,6 @@
 //! Our square root, power and logarithm beside the platform's.
 
 use crate::inputs::Random;
-use crate::overbrindle;
 use crate::timing::{Best, Row};
 use std::hint::black_box;
 

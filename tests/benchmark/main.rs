@@ -6,9 +6,6 @@ mod elementary;
 #[allow(dead_code)]
 #[path = "../vectors/inputs.rs"]
 mod inputs;
-#[allow(dead_code)]
-#[path = "../against_rust/overbrindle.rs"]
-mod overbrindle;
 mod searches;
 #[allow(dead_code)]
 #[path = "../vectors/series.rs"]
@@ -45,7 +42,7 @@ fn main() {
         row.print();
         rows.push((sort, row));
     }
-    searches::wrapper(best, &mut random, N).print();
+    searches::package(best, &mut random, N).print();
     println!("\nCharts, and the noise variance of BIC, {N} readings:\n");
     head("µs");
     charts::rows(best, &mut random, N)

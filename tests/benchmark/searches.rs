@@ -1,10 +1,10 @@
 //! Whole calls of searches by BIC: refusals, noise, search, backtrack and clearing on our side.
 
 use crate::inputs::Random;
-use crate::overbrindle::lent::{detect, Areas};
-use crate::overbrindle::{self, SLOT};
 use crate::series::fraction;
 use crate::timing::{Best, Row};
+use overbrindle::lent::{detect, Areas, SearchSettings, SLOT};
+use overbrindle::{CostFunction, Pelt, Penalty};
 use std::hint::black_box;
 
 /// How many series there are of each sort; a row has the sum of their times.
@@ -80,8 +80,13 @@ impl Room {
             indices: &mut self.indices,
             pool: &mut self.pool,
         };
-        let selected = (sort.normal.into(), 0, 0.0);
-        let said = detect(false, selected, 2, readings, lengths, areas);
+        let settings = SearchSettings {
+            cost: sort.normal.into(),
+            penalty_kind: 0,
+            penalty: 0.0,
+            min_segment_len: 2,
+        };
+        let said = detect(false, settings, readings, lengths, areas);
         (said.number, said.count)
     }
 }
@@ -155,8 +160,8 @@ pub fn sorts() -> Vec<Sort> {
     sorts
 }
 
-/// What the wrapper costs beside the search itself: it lends new room for each call.
-pub fn wrapper(best: Best, random: &mut Random, n: usize) -> Row {
+/// What the package costs beside the search itself: it lends new room for each call.
+pub fn package(best: Best, random: &mut Random, n: usize) -> Row {
     let sort = Sort {
         normal: false,
         channels: 1,
@@ -165,12 +170,12 @@ pub fn wrapper(best: Best, random: &mut Random, n: usize) -> Row {
     let made = series(random, n, sort);
     let signals: Vec<&[f64]> = made.iter().map(Vec::as_slice).collect();
     let pelt = rust(sort);
-    let ours = overbrindle::Pelt::new(overbrindle::CostFunction::L2, overbrindle::Penalty::Bic);
+    let ours = Pelt::new(CostFunction::L2, Penalty::Bic).expect("a search");
     let mut work = || drop(black_box(ours.detect_multi(black_box(&signals))));
     let mut work_theirs = || drop(black_box(pelt.detect_multi(black_box(&signals))));
     let times = best.of(&mut work, &mut work_theirs);
     Row::new(
-        "L2, 1 channel, 16 changes, by the wrapper",
+        "L2, 1 channel, 16 changes, by the package",
         times.0,
         times.1,
     )
