@@ -437,7 +437,7 @@ impl fmt::Display for Case {
                 write!(f, ", level {}, side {}", Values(&[asked.level]), asked.side)
             }
             Case::Heard(heard) => {
-                write!(f, "demand 3: settings {}", Values(&heard.settings))?;
+                write!(f, "promise 3: settings {}", Values(&heard.settings))?;
                 write!(f, ", level {}, side {}", Values(&[heard.level]), heard.side)?;
                 write!(f, ", readings {}", Values(&heard.readings))
             }

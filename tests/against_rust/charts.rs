@@ -113,7 +113,7 @@ impl Chart {
         }
     }
 
-    /// The refusals whose conditions the call meets, each by itself, in the order of document 01.
+    /// The refusals whose conditions the call meets, each by itself, in the order of rule 2.4.
     fn met(&self) -> Vec<u32> {
         let made = match self.kind {
             Kind::Cusum => charted::cusum_chart(&self.made_with()).is_some(),
@@ -129,7 +129,7 @@ impl Chart {
     }
 
     /// What the Rust makes of it. EWMA's limits take a power, which the Rust leaves open: its records are
-    /// those of a copy with document 01's, from which the unmodified ones may differ by that alone.
+    /// those of a copy with rule 4.2's, from which the unmodified ones may differ by that alone.
     fn records(&self, fault: Fault) -> Result<(Answer, Option<&'static str>), String> {
         let settings = self.made_with();
         if self.kind == Kind::Cusum {
@@ -260,7 +260,7 @@ fn told(met: &[u32]) -> String {
     }
 }
 
-/// What a copy of `ewma.rs` with document 01's powers makes of a series.
+/// What a copy of `ewma.rs` with rule 4.2's powers makes of a series.
 fn ruled_answer(settings: &Settings, readings: &[f64]) -> Option<Answer> {
     let [target, sigma, lambda, l_factor] = settings.values;
     let chart = match settings.by_new {
@@ -278,7 +278,7 @@ fn ruled_answer(settings: &Settings, readings: &[f64]) -> Option<Answer> {
     })
 }
 
-/// Whether the platform's power gives this record other limits than document 01's. It may move the limits
+/// Whether the platform's power gives this record other limits than rule 4.2's. It may move the limits
 /// and, where it does, the signal; nothing where more than that differs.
 fn limits_moved(by_rule: &Record, by_platform: &Record) -> Option<bool> {
     let bits = |record: &Record| -> Vec<u64> {
@@ -291,7 +291,7 @@ fn limits_moved(by_rule: &Record, by_platform: &Record) -> Option<bool> {
     (same_statistic && same_signal).then_some(moved)
 }
 
-/// Whether the unmodified Rust differs from the copy with document 01's powers, which may only be in limits
+/// Whether the unmodified Rust differs from the copy with rule 4.2's powers, which may only be in limits
 /// and by them in signals: there are as many records, and the same points where no limit differs.
 fn differ_by_powers(unmodified: &Answer, ruled: &Answer) -> Result<bool, String> {
     let pairs = ruled.records.iter().zip(&unmodified.records);
@@ -301,7 +301,7 @@ fn differ_by_powers(unmodified: &Answer, ruled: &Answer) -> Result<bool, String>
     let same_points = differ == Some(true) || ruled.points == unmodified.points;
     differ
         .filter(|_| as_many && same_points)
-        .ok_or("the copy with document 01's powers differs by more than limits".into())
+        .ok_or("the copy with rule 4.2's powers differs by more than limits".into())
 }
 
 impl Areas {
@@ -324,7 +324,7 @@ impl RunLength {
         }
     }
 
-    /// The refusals whose conditions the call meets, each by itself, in the order of document 01.
+    /// The refusals whose conditions the call meets, each by itself, in the order of rule 2.4.
     fn met(&self) -> Vec<u32> {
         let tests = [
             (self.side > 1, FORM),

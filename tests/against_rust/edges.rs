@@ -1,5 +1,5 @@
 //! Families about edges: room that is exactly full, or one place short; more readings than are taken;
-//! conditions of several refusals at once; and series that demand 3 speaks of.
+//! conditions of several refusals at once; and series that promise 3 speaks of.
 
 use crate::calls::{Call, Lent, SLOT};
 use crate::case::Case;
@@ -44,8 +44,8 @@ pub const EDGES: [(&str, usize, Drawn); 8] = [
         run_lengths_refused_twice,
     ),
     ("pieces of more than 4,096 readings", 600, too_long_pieces),
-    ("levels that are heard (demand 3)", 20_000, heard_levels),
-    ("levels that are heard late (demand 3)", 400, heard_late),
+    ("levels that are heard (promise 3)", 20_000, heard_levels),
+    ("levels that are heard late (promise 3)", 400, heard_late),
 ];
 
 /// Pairs of readings, each pair at another level: with a small penalty a search cuts between all of them,
@@ -162,7 +162,7 @@ fn full_noises(random: &mut Random) -> Vec<Case> {
     cases
 }
 
-/// Whether document 01 takes these settings. The Rust is not asked, so that it can't keep away a case in
+/// Whether rule 5.1 takes these settings. The Rust is not asked, so that it can't keep away a case in
 /// which it is wrong.
 fn in_range(kind: Kind, [target, sigma, weight, bound]: [f64; 4]) -> bool {
     let positive = |x: f64| x.is_finite() && x > 0.0;

@@ -1,7 +1,7 @@
 //! Square root, whole power and logarithm, on inputs of every kind.
 //!
 //! A root has to be the platform's, which IEEE 754 fixes to the bit. It does not fix the other two, so
-//! they have to be what the rules of document 01 give. How far powers and logarithms are from the
+//! they have to be what rules 4.2 and 4.3 give. How far powers and logarithms are from the
 //! platform's is printed and held to nothing.
 
 use crate::faults::Fault;

@@ -1,4 +1,4 @@
-//! Demand 3, of the library's answers alone: where the run length of a level is N, the Nth of any next N
+//! Promise 3, of the library's answers alone: where the run length of a level is N, the Nth of any next N
 //! finite readings at or beyond the level signals, in the records and among the signal points.
 
 use crate::charts;

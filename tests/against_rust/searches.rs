@@ -1,4 +1,4 @@
-//! A search: what it has to answer and to leave, by the Rust and by document 01's table of refusals, and
+//! A search: what it has to answer and to leave, by the Rust and by the table of rule 2.1, and
 //! whether it does.
 
 use crate::calls::{Answer, Call, Lent};
@@ -103,7 +103,7 @@ impl Search {
     }
 
     /// The cuts of L2 searches with a custom penalty are the unmodified Rust's, all others those of the
-    /// copy with document 01's logarithm, which also says how many candidates live at once. Where the
+    /// copy with rule 4.3's logarithm, which also says how many candidates live at once. Where the
     /// two differ, only a NaN radius may be the reason.
     fn due(&self) -> Result<Due, String> {
         if let Some((cost, kind)) = self.numbers {

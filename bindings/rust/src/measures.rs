@@ -9,7 +9,7 @@ pub struct PieceSummary {
     pub length: usize,
     /// Their mean.
     pub mean: f64,
-    /// Their mean square about the mean.
+    /// Their mean square about the mean. Rounding can bring that of nearly equal readings a little below 0.
     pub spread: f64,
 }
 

@@ -6,6 +6,9 @@ use crate::{Refusal, MAX_CHANNELS, MAX_READINGS};
 /// The slots that a search is lent at first. Most need fewer, and every search clears all that it is lent.
 const FIRST_SLOTS: usize = 40;
 
+/// Up to so many channels a search by L2 keeps its candidates in slots; no other search has any.
+const CHANNELS_WITH_SLOTS: usize = 2;
+
 /// What the cost of a piece is.
 #[derive(Clone, Copy, Debug, PartialEq, Eq)]
 pub enum CostFunction {
@@ -145,15 +148,15 @@ impl Pelt {
         }
     }
 
-    /// With more slots until they suffice: a search that had too few leaves its room as one that answered
-    /// does, so it can be asked again.
+    /// With more slots until they suffice, as n of them always do: a search that had too few leaves its room
+    /// as one that answered does, so it can be asked again.
     fn search(
         &self,
         strict: bool,
         readings: &[f64],
         lengths: &[usize],
     ) -> Result<Vec<usize>, Refusal> {
-        let mut room = Room::of(lengths);
+        let mut room = Room::of(self.cost, lengths);
         loop {
             let said = lent::detect(strict, self.settings(), readings, lengths, room.areas());
             match room.answer(said) {
@@ -179,14 +182,18 @@ struct Room {
 impl Room {
     /// As much as the library asks for channels of these lengths, or for the most that it takes: what is
     /// beyond that it refuses before it looks at the room.
-    fn of(lengths: &[usize]) -> Self {
+    fn of(cost: CostFunction, lengths: &[usize]) -> Self {
         let n = lengths.first().map_or(0, |&n| n.min(MAX_READINGS));
         let channels = lengths.len().min(MAX_CHANNELS);
+        let slots = match cost == CostFunction::L2 && channels <= CHANNELS_WITH_SLOTS {
+            true => FIRST_SLOTS.min(n),
+            false => 0,
+        };
         Room {
             cuts: vec![0; n / 2],
             floats: vec![0.0; (2 * channels + 2) * (n + 1)],
             indices: vec![0; 3 * (n + 1)],
-            pool: vec![0.0; FIRST_SLOTS.min(n + 1) * SLOT],
+            pool: vec![0.0; slots * SLOT],
         }
     }
 
@@ -199,8 +206,10 @@ impl Room {
         }
     }
 
+    /// As many again, and some where there were none, so that a search can't ask for ever.
     fn add_slots(&mut self) {
-        self.pool.resize(2 * self.pool.len(), 0.0);
+        let floats = self.pool.len().max(FIRST_SLOTS * SLOT);
+        self.pool.resize(self.pool.len() + floats, 0.0);
     }
 
     /// The cuts that a search in this room wrote, or the refusal.
