@@ -1,5 +1,5 @@
 //! How long the library takes beside the Rust, on the same inputs in one run: tables of ratios, as
-//! docs/BENCHMARK.md has them. `tests/benchmark/run` builds and runs it. No time is a test.
+//! docs/PERFORMANCE.md has them. `tests/benchmark/run` builds and runs it. No time is a test.
 
 mod charts;
 mod elementary;
