@@ -1,4 +1,4 @@
--- The charts' answers: what is said of one in the paper's numbers, and that as many records as one stands for fit both slices. Assumes nothing.
+-- The charts' answers: what is said of one in the rules' numbers, and that as many records as one stands for fit both slices. Assumes nothing.
 use mathlib.Core.Path.{_≡_, refl}
 use Prim.Native.Nat.{ℕ, _≤_}
 use mathlib.Core.Bool.{Bool, true, false, not, cond}
@@ -15,7 +15,7 @@ use Rattle.refusals.specs.declared.Answer.the-variants as Answer
 use Rattle.refusals.specs.declared.Refusal.the-variants as Refusal
 use Rattle.charts.specs.Answers.{chartTests, chartAnswer, admittedAs}
 
--- in the paper's numbers
+-- in the rules' numbers
 pub answer-said : (ok : Bool) (n room count : ℕ) → said (chartAnswer ok n room count) ≡ tried refusing (chartTests ok n room) (answered (count ∷ []))
 unfolding chartAnswer
 answer-said ok n room count = tried-map said Answer.Refused (chartTests ok n room) (Answer.Count count)

@@ -1,4 +1,4 @@
--- A segment from the sums before and after it, a summary from its segment, and what it says in the paper's numbers. Assumes nothing.
+-- A segment from the sums before and after it, a summary from its segment, and what it says in the rules' numbers. Assumes nothing.
 use Prim.Native.Nat.{ℕ, _-_}
 use mathlib.Core.Path.{_≡_}
 use mathlib.Core.List.{List, []}
@@ -27,7 +27,7 @@ pub summary-from : (xs : List Float) (a b : ℕ) (m q : Float) (s : Segment) →
 unfolding summaryOf segmentOf
 summary-from xs a b m q s e f g = rw (g, f, e)
 
--- in the paper's numbers: 6, then 12, then the values
+-- in the rules' numbers: 6, then 12, then the values
 pub summarised-said : (xs : List Float) (a b : ℕ) → summarised (summarisedAs xs a b) ≡ tried refusing (pieceTests xs a b) (summarised (Summarised.Piece (summaryOf xs a b)))
 unfolding summarisedAs
 summarised-said xs a b = tried-map summarised Summarised.Refused (pieceTests xs a b) (Summarised.Piece (summaryOf xs a b))

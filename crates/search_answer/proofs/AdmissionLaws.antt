@@ -115,7 +115,7 @@ unfolding tried roomTests
 plain-passed strict run n k cuts floats indices c s e = rw (s, e)
 
 -- ---- what the lengths say
--- as many channels as lengths, of the first one's readings; the paper's limits hold, and the channels fill the run
+-- as many channels as lengths, of the first one's readings; the rules' limits hold, and the channels fill the run
 pub record Shapely (run : List Float) (lengths : List ℕ) (k n : ℕ) : Type 0 where
   pub counted : length lengths ≡ k
   pub first : firstLength lengths ≡ n
@@ -189,7 +189,7 @@ module _ (strict : Bool) (penalty : Penalty) (m : ℕ) (run : List Float) (lengt
         indices-room = rw (← first) (room-of _ _ _ _ _ room .1 .indices);
       }
 
-  -- ---- in the paper's numbers
+  -- ---- in the rules' numbers
   pub admitted-said : shaped (admittedAs strict penalty m run lengths cuts floats indices) ≡ tried refusing (searchTests strict penalty m run lengths cuts floats indices) (answered (length lengths ∷ firstLength lengths ∷ []))
   unfolding admittedAs
   admitted-said = tried-map shaped Shaped.Refused (searchTests strict penalty m run lengths cuts floats indices) (Shaped.Channels (length lengths) (firstLength lengths))

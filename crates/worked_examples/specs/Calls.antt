@@ -56,7 +56,7 @@ pub data Outcome : Type 0 where
 unfoldable pub resolvedBy : Search → Float
 resolvedBy s = penaltyValue (s .settings .cost) (s .settings .penalty) (s .run) (firstLength (s .lengths)) (length (s .lengths))
 
--- what a call comes to is the outcome of its contract, with the answer in the paper's numbers
+-- what a call comes to is the outcome of its contract, with the answer in the rules' numbers
 unfoldable pub outcome : Call → Outcome
 outcome (search s) = let o = detected (s .strict) (s .settings) (s .run) (s .lengths) (s .areas) in searched (said (o .0)) (o .1)
 outcome (resolve s) = resolved (resolvedBy s)
