@@ -39,14 +39,19 @@
  *      8 NonFinite  a reading or level is NaN or infinite (strict search and run length only)
  *      9 Pool       L2 on one or two channels needs more slots than the pool has
  *     10 Form       a number that stands for no cost, penalty or side
- *     11 Chart      a chart setting is out of range
  *     12 Piece      a piece whose start is not below its end, or whose end is past the channel
+ *     15 Target     a chart's target is not finite
+ *     16 Sigma      a chart's sigma is not finite or not above 0
+ *     17 Weight     a chart's k is not finite or below 0, or its lambda is not above 0 and at most 1
+ *     18 Bound      a chart's h or l_factor is not finite or not above 0
+ *
+ *   11 is not given any more: it stood for 15 to 18. 13 and 14 are not in use.
  *
  * - Refusals are tried in a fixed order, and the first that holds is given:
  *
  *     both searches                10, then 1 to 9
- *     records and signal points    11, 6, 7
- *     run length                   10, 11, 8
+ *     records and signal points    15 to 18, then 6, 7
+ *     run length                   10, then 15 to 18, then 8
  *     piece summary                6, 12
  *
  * - Single results are written on every call. On a refusal they are 0, but for the channel and the

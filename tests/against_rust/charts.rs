@@ -1,5 +1,5 @@
-//! Charts and run lengths: what they have to answer and to leave, by the unmodified Rust and by document
-//! 01's table of refusals, and whether they do.
+//! Charts and run lengths: what they have to answer and to leave, by the unmodified Rust and by rule 2.1's
+//! table of refusals, and whether they do.
 
 use crate::charted::{self, Answer, Record};
 use crate::faults::Fault;
@@ -7,6 +7,7 @@ use crate::lending::{same_float, same_word, Area, Bytes, Rest, Word};
 use crate::rules::pattern;
 use crate::series::Settings;
 use crate::{wrapped, Outcome};
+pub use charted::Kind;
 use overbrindle::lent::{self, CusumSettings, EwmaSettings};
 use std::rc::Rc;
 
@@ -14,16 +15,9 @@ const TOO_LONG: u32 = 6;
 const ROOM: u32 = 7;
 const NON_FINITE: u32 = 8;
 const FORM: u32 = 10;
-const CHART: u32 = 11;
 const MOST_READINGS: usize = 4096;
 /// What docs/DIFFERENCES.md says of powers.
 const POWERS: &str = "`powi`";
-
-#[derive(Clone, Copy, Debug, PartialEq)]
-pub enum Kind {
-    Cusum,
-    Ewma,
-}
 
 /// A chart's records or signal points, of a chart made by `new` or with parameters. Each area has as many
 /// places as there are readings, and as many more or less as `spare` says, whose last is for the signal points.
@@ -114,18 +108,14 @@ impl Chart {
     }
 
     /// The refusals whose conditions the call meets, each by itself, in the order of rule 2.4.
-    fn met(&self) -> Vec<u32> {
-        let made = match self.kind {
-            Kind::Cusum => charted::cusum_chart(&self.made_with()).is_some(),
-            Kind::Ewma => charted::ewma_chart(&self.made_with()).is_some(),
-        };
+    fn met(&self, fault: Fault) -> Result<Vec<u32>, String> {
+        let mut met = met_by_settings(self.kind, &self.made_with(), fault)?;
         let tests = [
-            (!made, CHART),
             (self.readings.len() > MOST_READINGS, TOO_LONG),
             (self.short(), ROOM),
         ];
-        let met = tests.into_iter().filter(|(met, _)| *met);
-        met.map(|(_, number)| number).collect()
+        met.extend(met_by(tests));
+        Ok(met)
     }
 
     /// What the Rust makes of it. EWMA's limits take a power, which the Rust leaves open: its records are
@@ -163,7 +153,7 @@ impl Chart {
     }
 
     pub fn check(&self, areas: &mut Areas, fault: Fault) -> Result<Outcome, String> {
-        let met = self.met();
+        let met = self.met(fault)?;
         let due = self.due(&met, fault)?;
         areas.lend(self);
         let mut said = self.ask(areas);
@@ -251,12 +241,49 @@ impl Chart {
     }
 }
 
-/// The first refusal, and those whose conditions are met besides.
+/// The refusals of these tests that hold.
+fn met_by<const N: usize>(tests: [(bool, u32); N]) -> impl Iterator<Item = u32> {
+    let met = tests.into_iter().filter(|(met, _)| *met);
+    met.map(|(_, number)| number)
+}
+
+/// The refusals of settings that are out of range by rule 5.1, in their order. The Rust does not say which
+/// setting is wrong, but has to make no chart exactly where one is.
+fn met_by_settings(kind: Kind, settings: &Settings, fault: Fault) -> Result<Vec<u32>, String> {
+    let met = charted::refusals(kind, settings).into_iter();
+    let mut met: Vec<u32> = met.map(u32::from).collect();
+    let made = match kind {
+        Kind::Cusum => charted::cusum_chart(settings).is_some(),
+        Kind::Ewma => charted::ewma_chart(settings).is_some(),
+    };
+    if made != met.is_empty() {
+        return Err(format!("the Rust's chart, where {met:?} are met: {made}"));
+    }
+    exchange(fault, &mut met);
+    Ok(met)
+}
+
+/// Puts the fault that is asked for into what is due: two settings that are tested in the other order.
+fn exchange(fault: Fault, met: &mut [u32]) {
+    let exchanged = [
+        ("sigma before the target", [15, 16]),
+        ("the weight before sigma", [16, 17]),
+        ("the bound before the weight", [17, 18]),
+    ];
+    for (name, pair) in exchanged {
+        if let Some(at) = met.windows(2).position(|two| two == pair) {
+            if fault.is(name) {
+                met.swap(at, at + 1);
+            }
+        }
+    }
+}
+
+/// The first refusal, and the next one in the order whose conditions are met besides.
 fn told(met: &[u32]) -> String {
-    let others: Vec<String> = met[1..].iter().map(u32::to_string).collect();
-    match others.is_empty() {
-        true => format!("refusal {}", met[0]),
-        false => format!("refusal {} before {}", met[0], others.join(" and ")),
+    match met {
+        [first, next, ..] => format!("refusal {first} before {next}"),
+        _ => format!("refusal {}", met[0]),
     }
 }
 
@@ -325,18 +352,15 @@ impl RunLength {
     }
 
     /// The refusals whose conditions the call meets, each by itself, in the order of rule 2.4.
-    fn met(&self) -> Vec<u32> {
-        let tests = [
-            (self.side > 1, FORM),
-            (charted::cusum_chart(&self.made_with()).is_none(), CHART),
-            (!self.level.is_finite(), NON_FINITE),
-        ];
-        let met = tests.into_iter().filter(|(met, _)| *met);
-        met.map(|(_, number)| number).collect()
+    fn met(&self, fault: Fault) -> Result<Vec<u32>, String> {
+        let mut met: Vec<u32> = met_by([(self.side > 1, FORM)]).collect();
+        met.extend(met_by_settings(Kind::Cusum, &self.made_with(), fault)?);
+        met.extend(met_by([(!self.level.is_finite(), NON_FINITE)]));
+        Ok(met)
     }
 
     pub fn check(&self, fault: Fault) -> Result<Outcome, String> {
-        let met = self.met();
+        let met = self.met(fault)?;
         let due = match met.first() {
             Some(&number) => (number, 0),
             None => {

@@ -12,7 +12,7 @@ use crate::pieces::{self, Piece};
 use crate::runs::{self, kinds, quiet, SIZES};
 use crate::searches::Search;
 use crate::series::{self, SERIES_KINDS};
-use crate::{charted, series::Settings as ChartSettings};
+use crate::{charted, charted::usual, series::Settings as ChartSettings};
 use std::rc::Rc;
 
 /// Makes some cases of a family.
@@ -61,14 +61,6 @@ const DRAWN: [(&str, usize, Drawn); 13] = [
     ("pieces", 60_000, all_pieces),
     ("pieces about 4,096 readings", 600, longest_pieces),
 ];
-
-/// Target 0 and sigma 1, and the settings that come with `new`.
-pub fn usual(kind: Kind) -> [f64; 4] {
-    match kind {
-        Kind::Cusum => [0.0, 1.0, 0.5, 5.0],
-        Kind::Ewma => [0.0, 1.0, 0.2, 3.0],
-    }
-}
 
 pub fn families() -> Vec<Family> {
     let stored = families::FAMILIES.into_iter().zip(STORED_SHARES);
@@ -285,7 +277,7 @@ fn chart_cases(random: &mut Random, kind: Kind) -> Vec<(ChartSettings, Vec<f64>)
         Kind::Ewma => series::EWMA_SETTINGS,
     };
     let mut cases = charted::short_cases(random, &settings);
-    cases.extend(charted::refused_cases(random, usual(kind)));
+    cases.extend(charted::refused_cases(random, kind));
     cases
 }
 

@@ -3,8 +3,9 @@
 
 use crate::calls::{Call, Lent, SLOT};
 use crate::case::Case;
+use crate::charted::{usual, wrong_settings};
 use crate::charts::{Chart, Kind, RunLength};
-use crate::drawn::{pick, search, usual, Drawn};
+use crate::drawn::{pick, search, Drawn};
 use crate::families::{any_settings, at_least, l2};
 use crate::heard::Heard;
 use crate::inputs::Random;
@@ -35,12 +36,12 @@ pub const EDGES: [(&str, usize, Drawn); 8] = [
     ),
     (
         "charts refused for several reasons",
-        2_000,
+        8_000,
         charts_refused_twice,
     ),
     (
         "run lengths refused for several reasons",
-        2_000,
+        8_000,
         run_lengths_refused_twice,
     ),
     ("pieces of more than 4,096 readings", 600, too_long_pieces),
@@ -162,40 +163,19 @@ fn full_noises(random: &mut Random) -> Vec<Case> {
     cases
 }
 
-/// Whether rule 5.1 takes these settings. The Rust is not asked, so that it can't keep away a case in
-/// which it is wrong.
-fn in_range(kind: Kind, [target, sigma, weight, bound]: [f64; 4]) -> bool {
-    let positive = |x: f64| x.is_finite() && x > 0.0;
-    let weighs = match kind {
-        Kind::Cusum => weight.is_finite() && weight >= 0.0,
-        Kind::Ewma => weight > 0.0 && weight <= 1.0,
-    };
-    target.is_finite() && positive(sigma) && weighs && positive(bound)
-}
-
-/// Settings of which one is out of range.
-fn out_of_range(random: &mut Random, kind: Kind) -> Settings {
-    let mut all = series::refused(usual(kind));
-    all.retain(|settings| !in_range(kind, settings.values));
-    all.swap_remove(random.below(all.len() as u64) as usize)
-}
-
-/// Each set of conditions of refusals 11, 6 and 7, for both calls of both charts.
+/// Every set of settings that are out of range, times too many readings or not, times too little room or not,
+/// for both calls of both charts. `at` numbers the rest of a case, and its settings follow faster.
 fn charts_refused_twice(random: &mut Random) -> Vec<Case> {
     let mut cases = Vec::new();
-    for at in 0..32 {
-        let kind = [Kind::Cusum, Kind::Ewma][at / 8 % 2];
-        let settings = match at & 1 {
-            0 => Settings::with(usual(kind)),
-            _ => out_of_range(random, kind),
+    for (at, set) in (0..16).flat_map(|at| (0..16).map(move |set| (at, set))) {
+        let kind = [Kind::Cusum, Kind::Ewma][at & 1];
+        let points = at & 2 == 0;
+        let n = match at & 4 {
+            0 => MOST_READINGS + 1 + random.below(3) as usize,
+            _ => pick(random, &[0, 1, 3, 40, MOST_READINGS]),
         };
-        let n = match at & 2 {
-            0 => pick(random, &[0, 1, 3, 40, MOST_READINGS]),
-            _ => MOST_READINGS + 1 + random.below(3) as usize,
-        };
-        let points = at / 16 == 0;
         let mut spare = [0; 6];
-        if at & 4 != 0 {
+        if at & 8 == 0 {
             let area = match points {
                 true => 5,
                 false => pick(random, &[0, 1, 3, 4]),
@@ -204,8 +184,8 @@ fn charts_refused_twice(random: &mut Random) -> Vec<Case> {
         }
         cases.push(Case::Chart(Chart {
             kind,
-            by_new: settings.by_new,
-            settings: settings.values,
+            by_new: set < 4 && random.below(2) == 0,
+            settings: wrong_settings(random, kind, set),
             readings: Rc::new(SERIES_KINDS[1](random, 0.0, 1.0, n)),
             points,
             spare,
@@ -214,25 +194,21 @@ fn charts_refused_twice(random: &mut Random) -> Vec<Case> {
     cases
 }
 
-/// Each set of conditions of refusals 10, 11 and 8.
+/// Every set of settings that are out of range, times a level that is finite or not, times a side or none.
 fn run_lengths_refused_twice(random: &mut Random) -> Vec<Case> {
     let mut cases = Vec::new();
-    for at in 0..8 {
-        let settings = match at & 1 {
-            0 => Settings::with(usual(Kind::Cusum)),
-            _ => out_of_range(random, Kind::Cusum),
+    for (at, set) in (0..4).flat_map(|at| (0..16).map(move |set| (at, set))) {
+        let level = match at & 1 {
+            0 => pick(random, &NOT_FINITE),
+            _ => 6.0 * fraction(random) - 3.0,
         };
-        let level = match at & 2 {
-            0 => 6.0 * fraction(random) - 3.0,
-            _ => pick(random, &NOT_FINITE),
-        };
-        let side = match at & 4 {
+        let side = match at & 2 {
             0 => random.below(2) as u32,
             _ => pick(random, &[2, 3, u32::MAX]),
         };
         cases.push(Case::RunLength(RunLength {
-            by_new: settings.by_new,
-            settings: settings.values,
+            by_new: set < 4 && random.below(2) == 0,
+            settings: wrong_settings(random, Kind::Cusum, set),
             level,
             side,
         }));

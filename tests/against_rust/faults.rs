@@ -1,11 +1,12 @@
 //! Wrong answers, made of right ones, to see that the comparison notices them. With `--fault NAME` every
-//! answer that can have the fault has it, and the program has to end with status 1.
+//! answer that can have the fault has it, and the program has to end with status 1. Some are put into what is
+//! due and not into what is said: there the comparison has a wrong oracle.
 
 /// Whether a fault is asked for.
 #[derive(Clone, Copy, Default)]
 pub struct Fault(Option<&'static str>);
 
-pub const FAULTS: [&str; 48] = [
+pub const FAULTS: [&str; 51] = [
     "search number",
     "search count",
     "search place",
@@ -37,6 +38,9 @@ pub const FAULTS: [&str; 48] = [
     "another power and statistic",
     "another power and index",
     "another power and a record less",
+    "sigma before the target",
+    "the weight before sigma",
+    "the bound before the weight",
     "points",
     "points behind",
     "points beyond",

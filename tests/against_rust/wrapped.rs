@@ -16,7 +16,7 @@ use overbrindle::{
 use std::fmt::Debug;
 
 /// The refusals that are due to settings.
-const OF_SETTINGS: [u32; 3] = [1, 2, 11];
+const OF_SETTINGS: [u32; 6] = [1, 2, 15, 16, 17, 18];
 const NON_FINITE: u32 = 8;
 
 /// A refusal by its number, with the place of the reading where the number is 8.

@@ -18,6 +18,8 @@ use timing::{Best, Row};
 
 const N: usize = 4096;
 const SMALL: usize = 512;
+/// So few that what a chart does once a call counts: its settings are tested each time.
+const SHORT: usize = 16;
 
 fn head(unit: &str) {
     println!("| | ours, {unit} | the Rust's, {unit} | ratio |\n|---|---|---|---|");
@@ -48,6 +50,12 @@ fn main() {
     charts::rows(best, &mut random, N)
         .iter()
         .for_each(Row::print);
+    println!("\nThe same of {SHORT} readings, a thousand calls:\n");
+    head("µs");
+    charts::rows(best, &mut random, SHORT)
+        .iter()
+        .map(|row| Row::new(&row.name, row.ours * 1e3, row.theirs * 1e3))
+        .for_each(|row| row.print());
     println!("\nElementary functions, a thousand calls:\n");
     head("µs");
     elementary::rows(best, &mut random)

@@ -10,10 +10,17 @@ struct chart {
 /* Target 0 and sigma 1, with the usual k and h. */
 static const struct chart usual = {0, 1, 0.5, 5};
 
-/* Settings of which each is out of range in one place. */
-static const struct chart wrong[] = {
-    {NAN, 1, 0.5, 5}, {INFINITY, 1, 0.5, 5}, {0, 0, 0.5, 5}, {0, INFINITY, 0.5, 5}, {0, 1, -0.5, 5},
-    {0, 1, NAN, 5}, {0, 1, 0.5, 0}, {0, 1, 0.5, INFINITY},
+/* Settings of which some are out of range, and the refusal of the first of these. */
+static const struct {
+    struct chart settings;
+    uint32_t number;
+} wrong[] = {
+    {{NAN, 1, 0.5, 5}, 15}, {{INFINITY, 1, 0.5, 5}, 15}, {{NAN, NAN, NAN, NAN}, 15}, {{-INFINITY, 0, 0.5, 5}, 15},
+    {{NAN, 1, -1, 5}, 15}, {{NAN, 1, 0.5, 0}, 15},
+    {{0, 0, 0.5, 5}, 16}, {{0, -0.0, 0.5, 5}, 16}, {{0, INFINITY, 0.5, 5}, 16}, {{0, -1, -1, -1}, 16},
+    {{0, NAN, 0.5, 0}, 16},
+    {{0, 1, -0.5, 5}, 17}, {{0, 1, NAN, 5}, 17}, {{0, 1, INFINITY, 0}, 17},
+    {{0, 1, 0.5, 0}, 18}, {{0, 1, 0.5, -0.0}, 18}, {{0, 1, 0.5, INFINITY}, 18}, {{0, 1, -0.0, 0}, 18},
 };
 enum { WRONG = sizeof wrong / sizeof *wrong };
 
@@ -72,8 +79,11 @@ static void test_records(void) {
     records(HERE, both, 2, second, first, all);
     records(HERE, threes, 0, zeros, zeros, last);
 
-    for (size_t i = 0; i < WRONG; i++) refused(HERE, wrong[i], 4, 4, ARRAYS, 11);
-    refused(HERE, wrong[0], TOO_MANY, 0, ARRAYS, 11);
+    for (size_t i = 0; i < WRONG; i++) {
+        refused(HERE, wrong[i].settings, 0, 0, ARRAYS, wrong[i].number);
+        refused(HERE, wrong[i].settings, 4, 4, ARRAYS, wrong[i].number);
+        refused(HERE, wrong[i].settings, TOO_MANY, 0, ARRAYS, wrong[i].number);
+    }
     refused(HERE, usual, TOO_MANY, 0, ARRAYS, 6);
     refused(HERE, usual, TOO_MANY, TOO_MANY, ARRAYS, 6);
     for (int array = 0; array < ARRAYS; array++) refused(HERE, usual, 4, 4, array, 7);
@@ -103,8 +113,11 @@ static void test_points(void) {
     wholes_are(HERE, indices, 2, ENOUGH, LENT);
     no_points(HERE, usual, TOO_MANY - 1, TOO_MANY - 1, 0);
 
-    for (size_t i = 0; i < WRONG; i++) no_points(HERE, wrong[i], 4, 4, 11);
-    no_points(HERE, wrong[0], TOO_MANY, 0, 11);
+    for (size_t i = 0; i < WRONG; i++) {
+        no_points(HERE, wrong[i].settings, 0, 0, wrong[i].number);
+        no_points(HERE, wrong[i].settings, 4, 4, wrong[i].number);
+        no_points(HERE, wrong[i].settings, TOO_MANY, 0, wrong[i].number);
+    }
     no_points(HERE, usual, TOO_MANY, 0, 6);
     no_points(HERE, usual, 4, 3, 7);
 }
@@ -124,9 +137,11 @@ static void test_run_lengths(void) {
     hears(HERE, usual, 0, OVERBRINDLE_UPPER, 0, 0);
 
     hears(HERE, usual, 3, 2, 10, 0);
-    hears(HERE, wrong[0], NAN, UINT32_MAX, 10, 0);
-    for (size_t i = 0; i < WRONG; i++) hears(HERE, wrong[i], 3, OVERBRINDLE_UPPER, 11, 0);
-    hears(HERE, wrong[0], NAN, OVERBRINDLE_UPPER, 11, 0);
+    for (size_t i = 0; i < WRONG; i++) {
+        hears(HERE, wrong[i].settings, NAN, UINT32_MAX, 10, 0);
+        hears(HERE, wrong[i].settings, 3, OVERBRINDLE_UPPER, wrong[i].number, 0);
+        hears(HERE, wrong[i].settings, NAN, OVERBRINDLE_LOWER, wrong[i].number, 0);
+    }
     hears(HERE, usual, NAN, OVERBRINDLE_UPPER, 8, 0);
     hears(HERE, usual, -INFINITY, OVERBRINDLE_LOWER, 8, 0);
 }

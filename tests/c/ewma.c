@@ -10,10 +10,16 @@ struct chart {
 /* Target 0 and sigma 1: one whose statistic is the reading, and one that halves. */
 static const struct chart last_alone = {0, 1, 1, 3}, halving = {0, 1, 0.5, 4};
 
-/* Settings of which each is out of range in one place. */
-static const struct chart wrong[] = {
-    {NAN, 1, 1, 3}, {INFINITY, 1, 1, 3}, {0, 0, 1, 3}, {0, INFINITY, 1, 3}, {0, 1, 0, 3},
-    {0, 1, 1.5, 3}, {0, 1, NAN, 3}, {0, 1, 1, 0}, {0, 1, 1, INFINITY},
+/* Settings of which some are out of range, and the refusal of the first of these. */
+static const struct {
+    struct chart settings;
+    uint32_t number;
+} wrong[] = {
+    {{NAN, 1, 1, 3}, 15}, {{INFINITY, 1, 1, 3}, 15}, {{NAN, NAN, NAN, NAN}, 15}, {{-INFINITY, 0, 1, 3}, 15},
+    {{NAN, 1, 0, 3}, 15}, {{NAN, 1, 1, 0}, 15},
+    {{0, 0, 1, 3}, 16}, {{0, -0.0, 1, 3}, 16}, {{0, INFINITY, 1, 3}, 16}, {{0, -1, 0, 0}, 16}, {{0, NAN, 1, 0}, 16},
+    {{0, 1, 0, 3}, 17}, {{0, 1, -0.0, 3}, 17}, {{0, 1, 1.5, 3}, 17}, {{0, 1, NAN, 3}, 17}, {{0, 1, 0, 0}, 17},
+    {{0, 1, 1, 0}, 18}, {{0, 1, 1, -0.0}, 18}, {{0, 1, 1, INFINITY}, 18},
 };
 enum { WRONG = sizeof wrong / sizeof *wrong };
 
@@ -78,8 +84,11 @@ static void test_records(void) {
     records(HERE, halving, one, 1, half, 2, none);
     records(HERE, halving, one, 0, half, 2, none);
 
-    for (size_t i = 0; i < WRONG; i++) refused(HERE, wrong[i], 4, 4, ARRAYS, 11);
-    refused(HERE, wrong[0], TOO_MANY, 0, ARRAYS, 11);
+    for (size_t i = 0; i < WRONG; i++) {
+        refused(HERE, wrong[i].settings, 0, 0, ARRAYS, wrong[i].number);
+        refused(HERE, wrong[i].settings, 4, 4, ARRAYS, wrong[i].number);
+        refused(HERE, wrong[i].settings, TOO_MANY, 0, ARRAYS, wrong[i].number);
+    }
     refused(HERE, last_alone, TOO_MANY, 0, ARRAYS, 6);
     refused(HERE, last_alone, TOO_MANY, TOO_MANY, ARRAYS, 6);
     for (int array = 0; array < ARRAYS; array++) refused(HERE, last_alone, 4, 4, array, 7);
@@ -110,8 +119,11 @@ static void test_points(void) {
     no_points(HERE, halving, within, 2, 2, 0);
     no_points(HERE, halving, many, TOO_MANY - 1, TOO_MANY - 1, 0);
 
-    for (size_t i = 0; i < WRONG; i++) no_points(HERE, wrong[i], many, 4, 4, 11);
-    no_points(HERE, wrong[0], many, TOO_MANY, 0, 11);
+    for (size_t i = 0; i < WRONG; i++) {
+        no_points(HERE, wrong[i].settings, many, 0, 0, wrong[i].number);
+        no_points(HERE, wrong[i].settings, many, 4, 4, wrong[i].number);
+        no_points(HERE, wrong[i].settings, many, TOO_MANY, 0, wrong[i].number);
+    }
     no_points(HERE, halving, many, TOO_MANY, 0, 6);
     no_points(HERE, halving, many, 4, 3, 7);
 }

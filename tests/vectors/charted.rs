@@ -5,8 +5,9 @@ use crate::series::{self, Settings, SettingsKind, SERIES_KINDS};
 use cusum::Cusum;
 use ewma::Ewma;
 
-/// The number of the refusal of a chart's settings, and that of a level that is not finite.
-pub const CHART: u8 = 11;
+/// The numbers of the refusals of a chart's settings, in the order in which the Rust tests them, and that of
+/// a level that is not finite.
+const OF_SETTINGS: [u8; 4] = [15, 16, 17, 18];
 const NON_FINITE: u8 = 8;
 pub const MOST_READINGS: usize = 4096;
 /// Nearly all series are short, so that there is room for many.
@@ -24,8 +25,11 @@ pub struct Answer {
     pub points: Vec<usize>,
 }
 
-/// What makes of a series what a chart does, if there is a chart with these settings.
-pub type Chart = fn(&Settings, &[f64]) -> Option<Answer>;
+#[derive(Clone, Copy, Debug, PartialEq)]
+pub enum Kind {
+    Cusum,
+    Ewma,
+}
 
 /// The settings and the readings of a case.
 pub type Case = (Settings, Vec<f64>);
@@ -72,6 +76,43 @@ pub fn ewma_answer(settings: &Settings, readings: &[f64]) -> Option<Answer> {
     })
 }
 
+/// What the Rust's chart makes of a series, if there is a chart with these settings.
+pub fn answer(kind: Kind, settings: &Settings, readings: &[f64]) -> Option<Answer> {
+    match kind {
+        Kind::Cusum => cusum_answer(settings, readings),
+        Kind::Ewma => ewma_answer(settings, readings),
+    }
+}
+
+/// Whether each of a chart's settings is in range, by rule 5.1: the target, sigma, k or lambda, h or L. The
+/// Rust is not asked, so that it can't keep away a case in which it is wrong.
+pub fn in_range(kind: Kind, [target, sigma, weight, bound]: [f64; 4]) -> [bool; 4] {
+    let positive = |x: f64| x.is_finite() && x > 0.0;
+    let weighs = match kind {
+        Kind::Cusum => weight.is_finite() && weight >= 0.0,
+        Kind::Ewma => weight > 0.0 && weight <= 1.0,
+    };
+    [target.is_finite(), positive(sigma), weighs, positive(bound)]
+}
+
+/// The refusals of the settings that are out of range, in the Rust's order.
+pub fn refusals(kind: Kind, settings: &Settings) -> Vec<u8> {
+    let tests = in_range(kind, settings.values).into_iter().zip(OF_SETTINGS);
+    let met = tests.filter(|(within, _)| !within);
+    met.map(|(_, number)| number).collect()
+}
+
+/// The refusal of settings of which the Rust makes no chart, and none of those of which it does.
+///
+/// # Panics
+///
+/// If the Rust made a chart where a setting is out of range, or none where all are in range.
+pub fn refused_by(kind: Kind, settings: &Settings, made: bool) -> Option<u8> {
+    let refusals = refusals(kind, settings);
+    assert_eq!(made, refusals.is_empty(), "{kind:?} {:?}", settings.values);
+    refusals.first().copied()
+}
+
 /// A series of each kind by settings of each, of several lengths; the first are 0, 1 and 2.
 pub fn short_cases(random: &mut Random, kinds: &[SettingsKind]) -> Vec<Case> {
     let mut cases: Vec<Case> = Vec::new();
@@ -101,20 +142,53 @@ fn long_cases(random: &mut Random, kinds: &[SettingsKind]) -> Vec<Case> {
     cases
 }
 
-/// Settings that are out of range, or at its end, with few readings.
-pub fn refused_cases(random: &mut Random, usual: [f64; 4]) -> Vec<Case> {
+/// One setting that is out of range, or at its end, and then every set of settings that are out of range, with
+/// few readings.
+pub fn refused_cases(random: &mut Random, kind: Kind) -> Vec<Case> {
+    let mut all = series::refused(usual(kind));
+    all.extend(several_refused(random, kind));
     let refused = |settings| {
         let count = random.below(4) as usize;
         let readings = SERIES_KINDS[1](random, 0.0, 1.0, count);
         (settings, readings)
     };
-    series::refused(usual).into_iter().map(refused).collect()
+    all.into_iter().map(refused).collect()
 }
 
-fn all_cases(random: &mut Random, usual: [f64; 4], kinds: &[SettingsKind]) -> Vec<Case> {
+/// Settings for every set of those that are out of range, but for the empty set.
+pub fn several_refused(random: &mut Random, kind: Kind) -> Vec<Settings> {
+    let wrong = (1..16).map(|set| wrong_settings(random, kind, set));
+    wrong.map(Settings::with).collect()
+}
+
+/// The usual settings, but out of range where the number `set` has a 1: 1 is for the target, 2 for sigma, 4
+/// for k or lambda, 8 for h or L.
+pub fn wrong_settings(random: &mut Random, kind: Kind, set: usize) -> [f64; 4] {
+    let mut values = usual(kind);
+    for (place, value) in values.iter_mut().enumerate() {
+        if set >> place & 1 == 1 {
+            *value = series::out_of_range(random, |x| {
+                let mut changed = usual(kind);
+                changed[place] = x;
+                !in_range(kind, changed)[place]
+            });
+        }
+    }
+    values
+}
+
+/// Target 0 and sigma 1, and the settings that come with `new`.
+pub fn usual(kind: Kind) -> [f64; 4] {
+    match kind {
+        Kind::Cusum => [0.0, 1.0, 0.5, 5.0],
+        Kind::Ewma => [0.0, 1.0, 0.2, 3.0],
+    }
+}
+
+fn all_cases(random: &mut Random, kind: Kind, kinds: &[SettingsKind]) -> Vec<Case> {
     let mut cases = short_cases(random, kinds);
     cases.extend(long_cases(random, kinds));
-    cases.extend(refused_cases(random, usual));
+    cases.extend(refused_cases(random, kind));
     cases
 }
 
@@ -130,10 +204,12 @@ fn run_length(chart: &Cusum, h: f64, level: f64, upper: bool) -> usize {
 
 /// The number of the refusal of a run length, or 0, and the run length.
 pub fn run_length_answer(settings: &Settings, level: f64, upper: bool) -> (u8, usize) {
-    match cusum_chart(settings) {
-        None => (CHART, 0),
+    let made = cusum_chart(settings);
+    let refused = refused_by(Kind::Cusum, settings, made.is_some());
+    match made {
         Some(_) if !level.is_finite() => (NON_FINITE, 0),
         Some(chart) => (0, run_length(&chart, settings.values[3], level, upper)),
+        None => (refused.expect("a refusal"), 0),
     }
 }
 
@@ -152,8 +228,9 @@ pub fn levels(random: &mut Random, [target, sigma, k, h]: [f64; 4]) -> Vec<(f64,
     levels
 }
 
-/// Run lengths to ask: the rules' example, those about the last reading, and levels for three settings of
-/// each kind and for settings that are refused.
+/// Run lengths to ask: the rules' example, those about the last reading, levels for three settings of each
+/// kind and for settings that are refused, and every set of settings that are refused with a level that is
+/// finite and with one that is not.
 pub fn run_lengths(random: &mut Random) -> Vec<(Settings, f64, bool)> {
     let last = [4094.0, 4095.0, 4095.5, 4096.0].map(|h| [0.0, 1.0, 0.0, h]);
     let mut asked = vec![(Settings::with([0.0, 1.0, 0.5, 5.0]), 3.0, true)];
@@ -167,19 +244,22 @@ pub fn run_lengths(random: &mut Random) -> Vec<(Settings, f64, bool)> {
         let ask = |(level, upper)| (Settings::with(values), level, upper);
         asked.extend(levels(random, values).into_iter().map(ask));
     }
+    for level in [3.0, f64::NAN] {
+        let refused = several_refused(random, Kind::Cusum).into_iter();
+        asked.extend(refused.map(|settings| (settings, level, true)));
+    }
     asked
 }
 
 /// CUSUM's examples of docs/RULES.md, and then all others.
 pub fn cusum_cases(random: &mut Random) -> Vec<Case> {
     let marked = [vec![3.0; 3], vec![8.0, f64::NAN]];
-    let usual = [0.0, 1.0, 0.5, 5.0];
     let by_new = |readings| {
-        let (by_new, values) = (true, usual);
+        let (by_new, values) = (true, usual(Kind::Cusum));
         (Settings { by_new, values }, readings)
     };
     let mut cases: Vec<Case> = marked.into_iter().map(by_new).collect();
-    cases.extend(all_cases(random, usual, &series::CUSUM_SETTINGS));
+    cases.extend(all_cases(random, Kind::Cusum, &series::CUSUM_SETTINGS));
     cases
 }
 
@@ -187,7 +267,6 @@ pub fn cusum_cases(random: &mut Random) -> Vec<Case> {
 pub fn ewma_cases(random: &mut Random) -> Vec<Case> {
     let marked = [3.0, 3.5].map(|reading| (Settings::with([0.0, 1.0, 1.0, 3.0]), vec![reading]));
     let mut cases: Vec<Case> = marked.into_iter().collect();
-    let usual = [0.0, 1.0, 0.2, 3.0];
-    cases.extend(all_cases(random, usual, &series::EWMA_SETTINGS));
+    cases.extend(all_cases(random, Kind::Ewma, &series::EWMA_SETTINGS));
     cases
 }

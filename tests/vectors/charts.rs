@@ -10,15 +10,19 @@
 //! 7ff8000000000000. A case begins with a letter and the four settings, 8 bytes each.
 //!
 //! `n`, a chart by `new`, which has the last two settings of its own, or `p`, one by `with_params`:
-//! the number of readings in 2 bytes, and 8 bytes for each reading; then a byte that is 0, or 11
-//! where the Rust makes no such chart, and with 11 the case ends; then what `signal_points` gives,
+//! the number of readings in 2 bytes, and 8 bytes for each reading; then a byte that is 0, or 15 to 18
+//! where the Rust makes no such chart, and with such a number the case ends; then what `signal_points` gives,
 //! their number and each of them in 2 bytes; then for each reading its record, 8 bytes for each value,
 //! a byte that is 1 for a signal, and the index in 2 bytes.
 //!
 //! `u` or `l`, the run length of a level by the upper or the lower sum of a chart by `with_params`:
-//! 8 bytes for the level; then a byte that is 0, or 11 where the Rust makes no such chart, or 8 where
+//! 8 bytes for the level; then a byte that is 0, or 15 to 18 where the Rust makes no such chart, or 8 where
 //! the level is not finite; then 2 bytes: the first of 4,096 readings of that level, from 1, after
 //! which the Rust's chart has the sum above h, or 0.
+//!
+//! The Rust does not say which setting is wrong. The number is that of the first that is out of range by rule
+//! 5.1, in the order in which the Rust tests them; that it makes no chart exactly where there is such a
+//! setting is asserted.
 
 mod charted;
 #[allow(dead_code)]
@@ -27,7 +31,7 @@ mod inputs;
 mod rules;
 mod series;
 
-use charted::{Answer, Case, Chart, CHART};
+use charted::{Answer, Case, Kind};
 use inputs::Random;
 use series::Settings;
 use std::io::{self, BufWriter, Write};
@@ -77,7 +81,7 @@ fn write_answer(out: &mut impl Write, answer: &Answer) -> io::Result<()> {
 fn write_series(
     out: &mut impl Write,
     written: &mut Written,
-    chart: Chart,
+    kind: Kind,
     (settings, readings): &Case,
 ) -> io::Result<()> {
     write_settings(out, if settings.by_new { b'n' } else { b'p' }, settings)?;
@@ -86,9 +90,11 @@ fn write_series(
         out.write_all(&reading.to_bits().to_be_bytes())?;
     }
     written.series += 1;
-    let Some(answer) = chart(settings, readings) else {
+    let answer = charted::answer(kind, settings, readings);
+    let refused = charted::refused_by(kind, settings, answer.is_some());
+    let Some(answer) = answer else {
         written.refused += 1;
-        return out.write_all(&[CHART]);
+        return out.write_all(&[refused.expect("a refusal")]);
     };
     written.records += answer.records.len();
     written.points += answer.points.len();
@@ -96,10 +102,10 @@ fn write_series(
     write_answer(out, &answer)
 }
 
-fn write_all(out: &mut impl Write, chart: Chart, cases: &[Case]) -> io::Result<()> {
+fn write_all(out: &mut impl Write, kind: Kind, cases: &[Case]) -> io::Result<()> {
     let mut written = Written::default();
     for case in cases {
-        write_series(out, &mut written, chart, case)?;
+        write_series(out, &mut written, kind, case)?;
     }
     let Written {
         series, refused, ..
@@ -134,7 +140,7 @@ fn write_run_lengths(out: &mut impl Write, random: &mut Random) -> io::Result<()
 }
 
 fn write_cusum(out: &mut impl Write, random: &mut Random) -> io::Result<()> {
-    write_all(out, charted::cusum_answer, &charted::cusum_cases(random))?;
+    write_all(out, Kind::Cusum, &charted::cusum_cases(random))?;
     write_run_lengths(out, random)
 }
 
@@ -159,7 +165,7 @@ fn report_powers(cases: &[Case]) {
 fn write_ewma(out: &mut impl Write, random: &mut Random) -> io::Result<()> {
     let cases = charted::ewma_cases(random);
     report_powers(&cases);
-    write_all(out, charted::ewma_answer, &cases)
+    write_all(out, Kind::Ewma, &cases)
 }
 
 fn main() -> io::Result<()> {

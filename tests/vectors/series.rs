@@ -194,20 +194,36 @@ fn mixed_ewma(random: &mut Random) -> Settings {
     Settings::with([target, sigma, weight, pick(random, &SIZES)])
 }
 
+/// Values that some setting is refused for: no setting may be one of the first three.
+const REFUSED: [f64; 9] = [
+    f64::NAN,
+    f64::INFINITY,
+    f64::NEG_INFINITY,
+    0.0,
+    -0.0,
+    -5e-324,
+    -1.0,
+    1.0 + f64::EPSILON,
+    2.0,
+];
+
+/// One of these for which this holds.
+pub fn out_of_range(random: &mut Random, refused: impl Fn(f64) -> bool) -> f64 {
+    let values: Vec<f64> = REFUSED.into_iter().filter(|&x| refused(x)).collect();
+    pick(random, &values)
+}
+
 /// Settings of which one is out of range, or at the end of it, where the others are these.
 pub fn refused(usual: [f64; 4]) -> Vec<Settings> {
-    let never = [f64::NAN, f64::INFINITY, f64::NEG_INFINITY];
-    let signed = [0.0, -0.0, -5e-324, -1.0, 1.0 + f64::EPSILON, 2.0];
-    let values = [&never[..], &signed[..]].concat();
     let at_place = |place| {
-        values.iter().map(move |&value| {
+        REFUSED.iter().map(move |&value| {
             let mut changed = usual;
             changed[place] = value;
             Settings::with(changed)
         })
     };
     let changed: Vec<_> = (0..4).flat_map(at_place).collect();
-    let by_new = [never[0], -1.0].map(|sigma| Settings {
+    let by_new = [f64::NAN, -1.0].map(|sigma| Settings {
         by_new: true,
         values: [usual[0], sigma, usual[2], usual[3]],
     });

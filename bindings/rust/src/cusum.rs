@@ -43,13 +43,14 @@ pub struct CusumResult {
 pub struct Cusum(CusumSettings);
 
 impl Cusum {
-    /// A chart with k 0.5 and h 5. Settings out of range are [`Refusal::Chart`].
+    /// A chart with k 0.5 and h 5. A target or sigma out of range is [`Refusal::Target`] or
+    /// [`Refusal::Sigma`].
     pub fn new(target: f64, sigma: f64) -> Result<Self, Refusal> {
         Self::with_params(target, sigma, 0.5, 5.0)
     }
 
-    /// A chart with an allowance k and a decision interval h of its own. Settings out of range are
-    /// [`Refusal::Chart`].
+    /// A chart with an allowance k and a decision interval h of its own. The first setting that is out of range
+    /// is [`Refusal::Target`], [`Refusal::Sigma`], [`Refusal::Weight`] or [`Refusal::Bound`].
     pub fn with_params(target: f64, sigma: f64, k: f64, h: f64) -> Result<Self, Refusal> {
         let made = Cusum(CusumSettings {
             target,

@@ -35,13 +35,14 @@ pub struct EwmaResult {
 pub struct Ewma(EwmaSettings);
 
 impl Ewma {
-    /// A chart with lambda 0.2 and L 3. Settings out of range are [`Refusal::Chart`].
+    /// A chart with lambda 0.2 and L 3. A target or sigma out of range is [`Refusal::Target`] or
+    /// [`Refusal::Sigma`].
     pub fn new(target: f64, sigma: f64) -> Result<Self, Refusal> {
         Self::with_params(target, sigma, 0.2, 3.0)
     }
 
-    /// A chart with a weight lambda and a width L of its own. Settings out of range are
-    /// [`Refusal::Chart`].
+    /// A chart with a weight lambda and a width L of its own. The first setting that is out of range is
+    /// [`Refusal::Target`], [`Refusal::Sigma`], [`Refusal::Weight`] or [`Refusal::Bound`].
     pub fn with_params(
         target: f64,
         sigma: f64,

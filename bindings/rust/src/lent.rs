@@ -152,7 +152,8 @@ pub fn noise_variance(channel: &[f64], area: &mut [f64], place: usize) -> f64 {
     call!(c::overbrindle_noise_variance; ; channel; area; place)
 }
 
-/// The settings of a CUSUM chart. Any floats may be given: those out of range are refusal 11.
+/// The settings of a CUSUM chart. Any floats may be given: the first that is out of range is refusal 15 to 18,
+/// in the order of the fields.
 #[derive(Clone, Copy, Debug, PartialEq)]
 pub struct CusumSettings {
     /// The mean of the process, finite.
@@ -236,7 +237,8 @@ pub fn cusum_run_length(settings: CusumSettings, level: f64, side: u32) -> (u32,
     (number, reading)
 }
 
-/// The settings of an EWMA chart. Any floats may be given: those out of range are refusal 11.
+/// The settings of an EWMA chart. Any floats may be given: the first that is out of range is refusal 15 to 18,
+/// in the order of the fields.
 #[derive(Clone, Copy, Debug, PartialEq)]
 pub struct EwmaSettings {
     /// The mean of the process, finite.

@@ -13,9 +13,9 @@ use std::fmt;
 /// use overbrindle::{Cusum, Refusal};
 ///
 /// let refusal = Cusum::new(0.0, -1.0).unwrap_err();
-/// assert_eq!(refusal, Refusal::Chart);
-/// assert_eq!(refusal.number(), 11);
-/// assert_eq!(refusal.to_string(), "refusal 11: a setting of the chart is out of range");
+/// assert_eq!(refusal, Refusal::Sigma);
+/// assert_eq!(refusal.number(), 16);
+/// assert_eq!(refusal.to_string(), "refusal 16: sigma is not finite or not above 0");
 /// ```
 #[derive(Clone, Copy, Debug, PartialEq, Eq)]
 #[non_exhaustive]
@@ -45,11 +45,18 @@ pub enum Refusal {
     Pool,
     /// 10: a number stands for no cost, penalty or side.
     Form,
-    /// 11: a setting of the chart is out of range. The target has to be finite; sigma, h and L finite and
-    /// above 0; k finite and not negative; lambda above 0 and at most 1.
-    Chart,
     /// 12: the start of the piece is not below its end, or its end is past the channel.
     Piece,
+    /// 15: the target of a chart is not finite. Of several settings that are out of range the first is named,
+    /// in the order of the constructors' parameters.
+    Target,
+    /// 16: the sigma of a chart is not finite or not above 0.
+    Sigma,
+    /// 17: the weight of a chart is out of range: the k of a CUSUM chart is not finite or negative, or the
+    /// lambda of an EWMA chart is not above 0 and at most 1.
+    Weight,
+    /// 18: the bound of a chart, h of a CUSUM chart or L of an EWMA chart, is not finite or not above 0.
+    Bound,
     /// A number that this package has no case for. The library that it was made with gives none; a later
     /// one may, and its number is kept then.
     Other(u32),
@@ -69,8 +76,11 @@ impl Refusal {
             8 => Refusal::NonFinite { channel, index },
             9 => Refusal::Pool,
             10 => Refusal::Form,
-            11 => Refusal::Chart,
             12 => Refusal::Piece,
+            15 => Refusal::Target,
+            16 => Refusal::Sigma,
+            17 => Refusal::Weight,
+            18 => Refusal::Bound,
             number => Refusal::Other(number),
         }
     }
@@ -88,8 +98,11 @@ impl Refusal {
             Refusal::NonFinite { .. } => 8,
             Refusal::Pool => 9,
             Refusal::Form => 10,
-            Refusal::Chart => 11,
             Refusal::Piece => 12,
+            Refusal::Target => 15,
+            Refusal::Sigma => 16,
+            Refusal::Weight => 17,
+            Refusal::Bound => 18,
             Refusal::Other(number) => number,
         }
     }
@@ -117,8 +130,11 @@ impl Refusal {
             }
             Refusal::Pool => "the search needs more candidate slots than were lent".into(),
             Refusal::Form => "a number stands for no cost, penalty or side".into(),
-            Refusal::Chart => "a setting of the chart is out of range".into(),
             Refusal::Piece => "the piece is empty or ends past the channel".into(),
+            Refusal::Target => "the target is not finite".into(),
+            Refusal::Sigma => "sigma is not finite or not above 0".into(),
+            Refusal::Weight => "the weight, k or lambda, is out of range".into(),
+            Refusal::Bound => "the bound, h or L, is not finite or not above 0".into(),
             Refusal::Other(_) => "this package does not know the number".into(),
         }
     }
@@ -146,15 +162,21 @@ mod tests {
 
     #[test]
     fn each_number_is_kept() {
-        for number in 1..=13 {
+        for number in 1..=19 {
             assert_eq!(Refusal::of(number, 1, 17).number(), number);
         }
-        assert_eq!(Refusal::of(13, 0, 0), Refusal::Other(13));
+    }
+
+    #[test]
+    fn numbers_without_a_case() {
+        let other = |&number: &u32| Refusal::of(number, 0, 0) == Refusal::Other(number);
+        let holes: Vec<u32> = (1..=19).filter(other).collect();
+        assert_eq!(holes, [11, 13, 14, 19]);
     }
 
     #[test]
     fn only_a_reading_has_a_place() {
-        for number in 1..=13 {
+        for number in 1..=19 {
             let place = (number == 8).then_some((1, 17));
             assert_eq!(Refusal::of(number, 1, 17).place(), place);
         }

@@ -93,16 +93,40 @@ fn a_level() {
 }
 
 #[test]
-fn a_chart() {
-    let text = "refusal 11: a setting of the chart is out of range";
-    refused(Cusum::new(f64::NAN, 1.0), 11, text);
-    refused(Cusum::new(0.0, 0.0), 11, text);
-    refused(Cusum::with_params(0.0, 1.0, -0.5, 5.0), 11, text);
-    refused(Cusum::with_params(0.0, 1.0, 0.5, 0.0), 11, text);
-    refused(Ewma::new(0.0, f64::INFINITY), 11, text);
-    refused(Ewma::with_params(0.0, 1.0, 0.0, 3.0), 11, text);
-    refused(Ewma::with_params(0.0, 1.0, 1.5, 3.0), 11, text);
-    refused(Ewma::with_params(0.0, 1.0, 0.2, -3.0), 11, text);
+fn a_setting_of_a_chart() {
+    let target = "refusal 15: the target is not finite";
+    refused(Cusum::new(f64::NAN, 1.0), 15, target);
+    refused(Ewma::new(f64::NEG_INFINITY, 1.0), 15, target);
+    let sigma = "refusal 16: sigma is not finite or not above 0";
+    refused(Cusum::new(0.0, -0.0), 16, sigma);
+    refused(Ewma::new(0.0, f64::INFINITY), 16, sigma);
+    let weight = "refusal 17: the weight, k or lambda, is out of range";
+    refused(Cusum::with_params(0.0, 1.0, -0.5, 5.0), 17, weight);
+    refused(Ewma::with_params(0.0, 1.0, -0.0, 3.0), 17, weight);
+    refused(Ewma::with_params(0.0, 1.0, 1.5, 3.0), 17, weight);
+    let bound = "refusal 18: the bound, h or L, is not finite or not above 0";
+    refused(Cusum::with_params(0.0, 1.0, 0.5, -0.0), 18, bound);
+    refused(Ewma::with_params(0.0, 1.0, 0.2, -3.0), 18, bound);
+    assert!(Cusum::with_params(-0.0, 1.0, -0.0, 5.0).is_ok());
+}
+
+#[test]
+fn the_first_setting_that_is_wrong_is_named() {
+    let (nan, names) = (
+        f64::NAN,
+        [
+            Refusal::Target,
+            Refusal::Sigma,
+            Refusal::Weight,
+            Refusal::Bound,
+        ],
+    );
+    let usual = [0.0, 1.0, 0.5, 5.0];
+    for (at, name) in names.into_iter().enumerate() {
+        let [a, b, c, d] = [0, 1, 2, 3].map(|i| if i < at { usual[i] } else { nan });
+        assert_eq!(Cusum::with_params(a, b, c, d).err(), Some(name));
+        assert_eq!(Ewma::with_params(a, b, c, d).err(), Some(name));
+    }
 }
 
 #[test]

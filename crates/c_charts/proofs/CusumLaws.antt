@@ -8,13 +8,14 @@ use lib.ListN.{length, set}
 use lib.Ieee.{Float, nan}
 use Rattle.refusals.specs.Tried.{countOf}
 use Rattle.refusals.specs.Said.{said}
+use Rattle.refusals.specs.declared.Refusal.{Refusal}
 use Rattle.charts.specs.Answers.{admittedAs}
 use Rattle.charts.specs.Runs.{column}
 use Rattle.charts.proofs.Answers.{within-both}
 use Rattle.charts.proofs.Columns.{Going, filled-length, one-gone, one-filled, all-filled}
 use Rattle.cusum.specs.declared.Cusum.{Cusum}
 use Rattle.cusum.specs.declared.State.{State}
-use Rattle.cusum.specs.Chart.{accepted, records, shownOf, startState, nextState, followingState}
+use Rattle.cusum.specs.Chart.{testsOf, records, shownOf, startState, nextState, followingState}
 use Rattle.c_answers.specs.declared.Counted.{Counted}
 use Rattle.c_answers.specs.Told.{countedOf}
 use Rattle.c_charts.specs.CusumColumns.{cusumArrays, upperOf, lowerOf, signalOf, indexOf, roomOf}
@@ -35,9 +36,9 @@ pub record Room (n : ℕ) (upper lower : List Float) (signal index : List ℕ) :
   pub index-room : n ≤ length index
 
 -- the records that are written have room
-pub written-room : (ok : Bool) (n : ℕ) (upper lower : List Float) (signal index : List ℕ) → let k = countOf (admittedAs ok n (roomOf upper lower signal index)) in (k ≤ n) × Room k upper lower signal index
-written-room ok n upper lower signal index =
-    let k = within-both ok n (roomOf upper lower signal index) in
+pub written-room : (ts : List (Bool × Refusal)) (n : ℕ) (upper lower : List Float) (signal index : List ℕ) → let k = countOf (admittedAs ts n (roomOf upper lower signal index)) in (k ≤ n) × Room k upper lower signal index
+written-room ts n upper lower signal index =
+    let k = within-both ts n (roomOf upper lower signal index) in
     let s = shortest-least (length upper) (length lower) (length signal) (length index) in
     (k .0, record { upper-room = omega (arith, k .1, s .0); lower-room = omega (arith, k .1, s .1); signal-room = omega (arith, k .1, s .2); index-room = omega (arith, k .1, s .3) })
 
@@ -77,6 +78,6 @@ module _ {c : Cusum} {xs : List Float} {n i : ℕ} {upper upper′ lower lower�
   )
 
 -- the arrays so filled, and what is told of the answer, are the outcome
-pub arrays-are : {c : Cusum} {xs : List Float} {upper upper′ : List Float} {lower lower′ : List Float} {signal signal′ : List ℕ} {index index′ : List ℕ} (t : Counted) → let answer = admittedAs (accepted c) (length xs) (roomOf upper lower signal index) in t ≡ countedOf (said answer) → Filled c xs (countOf answer) upper upper′ lower lower′ signal signal′ index index′
+pub arrays-are : {c : Cusum} {xs : List Float} {upper upper′ : List Float} {lower lower′ : List Float} {signal signal′ : List ℕ} {index index′ : List ℕ} (t : Counted) → let answer = admittedAs (testsOf c) (length xs) (roomOf upper lower signal index) in t ≡ countedOf (said answer) → Filled c xs (countOf answer) upper upper′ lower lower′ signal signal′ index index′
     → _≡_ {A = Counted × List Float × List Float × List ℕ × List ℕ} (t, upper′, lower′, signal′, index′) (cusumArrays c xs upper lower signal index)
 arrays-are t e f = rw (e, f .upper-left, f .lower-left, f .signal-left, f .index-left) refl

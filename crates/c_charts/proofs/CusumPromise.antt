@@ -2,16 +2,17 @@
 -- and its index among those that `overbrindle_cusum_signal_points` wrote. Assumes nothing.
 use mathlib.Core.Path.{_≡_, sym, ap, ap₂, _∙_}
 use Prim.Native.Nat.{ℕ, _+_, _<_}
-use mathlib.Core.Bool.{Bool, not}
-use mathlib.Core.List.{List, [], _∷_}
-use lib.Dec.{T, ltb}
+use mathlib.Core.Bool.{Bool, true, not}
+use mathlib.Core.List.{List, [], _∷_, _++_}
+use lib.Dec.{ltb}
 use lib.ListN.{length, getD}
 use lib.Ieee.{Float}
 use Rattle.floats.specs.Finite.{finite}
-use Rattle.refusals.specs.Tried.{countOf}
+use Rattle.refusals.specs.Tried.{passed, countOf}
 use Rattle.refusals.specs.Said.{answered, said}
 use Rattle.refusals.specs.declared.Answer.{Answer}
 use Rattle.refusals.specs.declared.Answer.the-variants as Answer
+use Rattle.refusals.specs.declared.Refusal.{Refusal}
 use Rattle.refusals.specs.declared.Refusal.the-variants as Refusal
 use Rattle.charts.specs.Runs.{column}
 use Rattle.charts.specs.Among.{Among}
@@ -20,9 +21,10 @@ use Rattle.charts.specs.Answers.{admittedAs}
 use Rattle.charts.proofs.Answers.{count-accepted}
 use Rattle.cusum.specs.declared.Cusum.{Cusum}
 use Rattle.cusum.specs.declared.Heard.the-variants as Heard
-use Rattle.cusum.specs.Chart.{accepted, shownOf, startState, nextState, records, signalled}
+use Rattle.cusum.specs.Chart.{testsOf, shownOf, startState, nextState, records, signalled}
 use Rattle.cusum.specs.RunLength.{heard, heardAs, runLength}
 use Rattle.cusum.specs.Promise.{Lasting}
+use Rattle.cusum.proofs.SettingLaws.{passed-accepted}
 use Rattle.cusum.proofs.Promise.{in-series}
 use Rattle.cusum.proofs.Calls.{heard-one, record-signals, signal-points-has}
 use Rattle.c_answers.specs.declared.Counted.{Counted}
@@ -38,14 +40,14 @@ unfolding runLengthOf runLength toldOf
 told-heard c v side n e h =
     let l = heard c v (sideOf side) in
     let a = result-counted ((not (ltb side 2), Refusal.Form) ∷ []) (runLength c v (sideOf side)) n e in
-    let b = result-counted ((not (accepted c), Refusal.Chart) ∷ (not (finite v), Refusal.NonFinite 0 0) ∷ []) (answered l) n (a .1) in
+    let b = result-counted (testsOf c ++ ((not (finite v), Refusal.NonFinite 0 0) ∷ [])) (answered l) n (a .1) in
     ap answered (sym (heard-one c v (sideOf side) n (sym (ap (λ (t : Counted). t .count) (b .1))) h)) ∙ sym (b .0)
 
 -- the records
-told-records : (ok : Bool) (n room count : ℕ) → countedAs 0 count ≡ countedOf (said (admittedAs ok n room)) → T ok × (countOf (admittedAs ok n room) ≡ n)
-told-records ok n room count e =
-    let answer : admittedAs ok n room ≡ Answer.Count count = count-told (admittedAs ok n room) count e in
-    let counts = count-accepted ok n room n count (sym answer) in
+told-records : (ts : List (Bool × Refusal)) (n room count : ℕ) → countedAs 0 count ≡ countedOf (said (admittedAs ts n room)) → (passed ts ≡ true) × (countOf (admittedAs ts n room) ≡ n)
+told-records ts n room count e =
+    let answer : admittedAs ts n room ≡ Answer.Count count = count-told (admittedAs ts n room) count e in
+    let counts = count-accepted ts n room n count (sym answer) in
     (counts .0, ap countOf answer ∙ counts .1)
 
 -- ---- the promise: the reading `n` is told of the side with the number `side`, and the reading at `p + d` is, counted from `p`, the `n`th finite one
@@ -54,10 +56,10 @@ module _ (c : Cusum) (v : Float) (side n : ℕ) (told-at : countedAs 0 n ≡ cou
       → _≡_ {A = Counted × List Float × List Float × List ℕ × List ℕ} (countedAs 0 count, upper′, lower′, signal′, index′) (cusumArrays c xs upper lower signal index) → getD signal′ (p + d) 0 ≡ 1
   unfolding flag
   array-signals upper lower upper′ lower′ signal index signal′ index′ count a =
-      let told = told-records (accepted c) (length xs) (roomOf upper lower signal index) count (ap (λ (o : Counted × List Float × List Float × List ℕ × List ℕ). o .0) a) in
+      let told = told-records (testsOf c) (length xs) (roomOf upper lower signal index) count (ap (λ (o : Counted × List Float × List Float × List ℕ × List ℕ). o .0) a) in
       ap (λ (l : List ℕ). getD l (p + d) 0) (ap (λ (o : Counted × List Float × List Float × List ℕ × List ℕ). o .3) a ∙ ap (λ (k : ℕ). column signalOf (records c xs k) signal) (told .1))
       ∙ field-in shownOf startState nextState c xs signalOf signal (length xs) (p + d) 0 (in-series xs (p + d) (lasting .last))
-      ∙ ap flag (record-signals c v (sideOf side) n (told-heard c v side n told-at some) xs p d lasting (told .0))
+      ∙ ap flag (record-signals c v (sideOf side) n (told-heard c v side n told-at some) xs p d lasting (passed-accepted c (told .0)))
 
   pub points-have : (entry exit : List ℕ) (count : ℕ) → _≡_ {A = Counted × List ℕ} (countedAs 0 count, exit) (toldLeft (signalled c xs entry)) → Among exit count (p + d)
   points-have entry exit count a =

@@ -8,13 +8,14 @@ use lib.ListN.{length, set}
 use lib.Ieee.{Float, nan}
 use Rattle.refusals.specs.Tried.{countOf}
 use Rattle.refusals.specs.Said.{said}
+use Rattle.refusals.specs.declared.Refusal.{Refusal}
 use Rattle.charts.specs.Answers.{admittedAs}
 use Rattle.charts.specs.Runs.{column, following}
 use Rattle.charts.proofs.Answers.{within-both}
 use Rattle.charts.proofs.Columns.{Going, filled-length, one-gone, one-filled, all-filled}
 use Rattle.ewma.specs.declared.Ewma.{Ewma}
 use Rattle.ewma.specs.declared.EwmaResult.{EwmaResult}
-use Rattle.ewma.specs.Chart.{accepted, records, fresh, itself, nextRecord}
+use Rattle.ewma.specs.Chart.{testsOf, records, fresh, itself, nextRecord}
 use Rattle.c_answers.specs.declared.Counted.{Counted}
 use Rattle.c_answers.specs.Told.{countedOf}
 use Rattle.c_charts.specs.Columns.{shorter}
@@ -38,9 +39,9 @@ pub record Room (n : ℕ) (ewma ucl lcl : List Float) (signal index : List ℕ) 
   pub index-room : n ≤ length index
 
 -- the records that are written have room
-pub written-room : (ok : Bool) (n : ℕ) (ewma ucl lcl : List Float) (signal index : List ℕ) → let k = countOf (admittedAs ok n (roomOf ewma ucl lcl signal index)) in (k ≤ n) × Room k ewma ucl lcl signal index
-written-room ok n ewma ucl lcl signal index =
-    let k = within-both ok n (roomOf ewma ucl lcl signal index) in
+pub written-room : (ts : List (Bool × Refusal)) (n : ℕ) (ewma ucl lcl : List Float) (signal index : List ℕ) → let k = countOf (admittedAs ts n (roomOf ewma ucl lcl signal index)) in (k ≤ n) × Room k ewma ucl lcl signal index
+written-room ts n ewma ucl lcl signal index =
+    let k = within-both ts n (roomOf ewma ucl lcl signal index) in
     let h = shorter-least (length ewma) (length ucl) in
     let s = shortest-least (shorter (length ewma) (length ucl)) (length lcl) (length signal) (length index) in
     (k .0, record { ewma-room = omega (arith, k .1, s .0, h .0); ucl-room = omega (arith, k .1, s .0, h .1); lcl-room = omega (arith, k .1, s .1); signal-room = omega (arith, k .1, s .2); index-room = omega (arith, k .1, s .3) })
@@ -86,6 +87,6 @@ module _ {c : Ewma} {xs : List Float} {n i : ℕ} {ewma ewma′ ucl ucl′ lcl l
   )
 
 -- the arrays so filled, and what is told of the answer, are the outcome
-pub arrays-are : {c : Ewma} {xs : List Float} {ewma ewma′ : List Float} {ucl ucl′ : List Float} {lcl lcl′ : List Float} {signal signal′ : List ℕ} {index index′ : List ℕ} (t : Counted) → let answer = admittedAs (accepted c) (length xs) (roomOf ewma ucl lcl signal index) in t ≡ countedOf (said answer) → Filled c xs (countOf answer) ewma ewma′ ucl ucl′ lcl lcl′ signal signal′ index index′
+pub arrays-are : {c : Ewma} {xs : List Float} {ewma ewma′ : List Float} {ucl ucl′ : List Float} {lcl lcl′ : List Float} {signal signal′ : List ℕ} {index index′ : List ℕ} (t : Counted) → let answer = admittedAs (testsOf c) (length xs) (roomOf ewma ucl lcl signal index) in t ≡ countedOf (said answer) → Filled c xs (countOf answer) ewma ewma′ ucl ucl′ lcl lcl′ signal signal′ index index′
     → _≡_ {A = Counted × List Float × List Float × List Float × List ℕ × List ℕ} (t, ewma′, ucl′, lcl′, signal′, index′) (ewmaArrays c xs ewma ucl lcl signal index)
 arrays-are t e f = rw (e, f .ewma-left, f .ucl-left, f .lcl-left, f .signal-left, f .index-left) refl

@@ -9,7 +9,7 @@ use Rattle.charts.specs.Runs.{column}
 use Rattle.charts.specs.Answers.{admittedAs}
 use Rattle.cusum.specs.declared.Cusum.{Cusum}
 use Rattle.cusum.specs.declared.CusumResult.{CusumResult}
-use Rattle.cusum.specs.Chart.{accepted, records}
+use Rattle.cusum.specs.Chart.{testsOf, records}
 use Rattle.c_answers.specs.declared.Counted.{Counted}
 use Rattle.c_answers.specs.Told.{countedOf}
 use Rattle.c_charts.specs.Columns.{shortest, flag}
@@ -34,6 +34,6 @@ roomOf upper lower signal index = shortest (length upper) (length lower) (length
 -- what `cusum_analyze` tells and leaves: each array has, in front, that field of the records that `analyze` writes
 abbrev pub cusumArrays : Cusum → List Float → List Float → List Float → List ℕ → List ℕ → Counted × List Float × List Float × List ℕ × List ℕ
 cusumArrays c xs upper lower signal index =
-    let answer = admittedAs (accepted c) (length xs) (roomOf upper lower signal index) in
+    let answer = admittedAs (testsOf c) (length xs) (roomOf upper lower signal index) in
     let shown = records c xs (countOf answer) in
     (countedOf (said answer), column upperOf shown upper, column lowerOf shown lower, column signalOf shown signal, column indexOf shown index)

@@ -9,7 +9,7 @@ use Rattle.charts.specs.Runs.{column}
 use Rattle.charts.specs.Answers.{admittedAs}
 use Rattle.ewma.specs.declared.Ewma.{Ewma}
 use Rattle.ewma.specs.declared.EwmaResult.{EwmaResult}
-use Rattle.ewma.specs.Chart.{accepted, records}
+use Rattle.ewma.specs.Chart.{testsOf, records}
 use Rattle.c_answers.specs.declared.Counted.{Counted}
 use Rattle.c_answers.specs.Told.{countedOf}
 use Rattle.c_charts.specs.Columns.{shorter, shortest, flag}
@@ -37,6 +37,6 @@ roomOf ewma ucl lcl signal index = shortest (shorter (length ewma) (length ucl))
 -- what `ewma_analyze` tells and leaves: each array has, in front, that field of the records that `analyze` writes
 abbrev pub ewmaArrays : Ewma → List Float → List Float → List Float → List Float → List ℕ → List ℕ → Counted × List Float × List Float × List Float × List ℕ × List ℕ
 ewmaArrays c xs ewma ucl lcl signal index =
-    let answer = admittedAs (accepted c) (length xs) (roomOf ewma ucl lcl signal index) in
+    let answer = admittedAs (testsOf c) (length xs) (roomOf ewma ucl lcl signal index) in
     let shown = records c xs (countOf answer) in
     (countedOf (said answer), column ewmaOf shown ewma, column uclOf shown ucl, column lclOf shown lcl, column signalOf shown signal, column indexOf shown index)

@@ -1,4 +1,5 @@
 pub mod Answers
+pub mod SettingLaws
 pub mod Loops
 pub mod AnswerKind
 pub mod Plain

@@ -9,17 +9,17 @@ use borrow.Author.Tests.{lt-ltb}
 use lib.Dec.{ltb}
 use lib.ListN.{length, getD, set, length-append}
 use lib.Ieee.{Float, nan}
-use Rattle.refusals.specs.Limits.{maxReadings}
-use Rattle.refusals.specs.Tried.{tried, countOf}
-use Rattle.refusals.specs.declared.Refusal.the-variants as Refusal
+use Rattle.refusals.specs.Tried.{countOf}
+use Rattle.refusals.proofs.TriedLaws.{passes, refuses, verdict}
+use Rattle.refusals.specs.declared.Refusal.{Refusal}
 use Rattle.refusals.specs.declared.Answer.{Answer}
 use Rattle.refusals.specs.declared.Answer.the-variants as Answer
 use Rattle.charts.specs.Runs.{stateAt, records, points, lent}
 use Rattle.charts.proofs.Runs.{lent-more, length-lent, points-few, written, written-lent}
-use Rattle.charts.specs.Answers.{chartAnswer, admittedAs, recounted}
+use Rattle.charts.specs.Answers.{chartTests, chartAnswer, admittedAs, recounted}
 use Rattle.charts.specs.Outcomes.{analyzed, provided, signalled}
 use Rattle.charts.specs.Notes.{noted}
-use Rattle.charts.proofs.Answers.{by-tests, within-both}
+use Rattle.charts.proofs.Answers.{passed-count, within-both}
 
 -- `points` stand at the front of the lent indices, and `count` is their number
 pub record Stands (points entry : List ℕ) (count : ℕ) (exit : List ℕ) : Type 0 where
@@ -73,33 +73,36 @@ module _ {C S D : Type 0} (shown : S → D) (start : C → S) (step : C → S �
           record { within = omega (arith, below); state = rw add-one moves; stands = rw add-one (stands-more (signals (shown (stateAt shown start step c xs (suc i)))) tells) }
 
 -- ---- the outcome of `signal_points`: as many readings are looked at as the answer of `analyze` stands for
-pub signalled-leaves : (ok : Bool) (n : ℕ) (pts : ℕ → List ℕ) (entry : List ℕ) (count : ℕ) (l : List ℕ) → pts 0 ≡ []
-    → Stands (pts (countOf (admittedAs ok n (length entry)))) entry count l → _≡_ {A = Answer × List ℕ} (recounted (admittedAs ok n (length entry)) count, l) (signalled ok n (pts n) entry)
-unfolding chartAnswer tried
-signalled-leaves ok n pts entry count l z s = go ok (ltb maxReadings n) (ltb (length entry) n) s
+pub signalled-leaves : (ts : List (Bool × Refusal)) (n : ℕ) (pts : ℕ → List ℕ) (entry : List ℕ) (count : ℕ) (l : List ℕ) → pts 0 ≡ []
+    → Stands (pts (countOf (admittedAs ts n (length entry)))) entry count l → _≡_ {A = Answer × List ℕ} (recounted (admittedAs ts n (length entry)) count, l) (signalled ts n (pts n) entry)
+unfolding chartAnswer
+signalled-leaves ts n pts entry count l z s =
+    let room = length entry in
+    let points = length (pts n) in
+    elim (verdict (chartTests ts n room)) [
+      | passes p ↦ counts (admittedAs ts n room) (chartAnswer ts n room points) (passed-count ts n room p n) (passed-count ts n room p points) s
+      | refuses r f ↦ refusals r (admittedAs ts n room) (chartAnswer ts n room points) (f n) (f points) s
+    ]
   where
-    -- a refusal stands for no index
-    nothing : Stands (pts 0) entry count l → l ≡ entry
-    nothing s = s .written ∙ ap (λ (p : List ℕ). lent p entry) z
+    -- the answers of `analyze` and of `signal_points` are counts
+    counts : (a q : Answer) → a ≡ Answer.Count n → q ≡ Answer.Count (length (pts n)) → Stands (pts (countOf a)) entry count l → _≡_ {A = Answer × List ℕ} (recounted a count, l) (q, lent (provided q (pts n)) entry)
+    counts a q e f s = let t = rw e at s in rw (e, f) (ap₂ (λ (k : ℕ) (x : List ℕ). (Answer.Count k, x)) (t .counted) (t .written))
 
-    go : (a b c : Bool) → let r = by-tests n a b c in Stands (pts (countOf r)) entry count l
-        → _≡_ {A = Answer × List ℕ} (recounted r count, l) (let q = by-tests (length (pts n)) a b c in (q, lent (provided q (pts n)) entry))
-    go false b c s = ap (λ (x : List ℕ). (Answer.Refused Refusal.Chart, x)) (nothing s)
-    go true true c s = ap (λ (x : List ℕ). (Answer.Refused Refusal.TooLong, x)) (nothing s)
-    go true false true s = ap (λ (x : List ℕ). (Answer.Refused Refusal.Room, x)) (nothing s)
-    go true false false s = ap₂ (λ (k : ℕ) (x : List ℕ). (Answer.Count k, x)) (s .counted) (s .written)
+    -- or the same refusal, which stands for no index
+    refusals : (r : Refusal) (a q : Answer) → a ≡ Answer.Refused r → q ≡ Answer.Refused r → Stands (pts (countOf a)) entry count l → _≡_ {A = Answer × List ℕ} (recounted a count, l) (q, lent (provided q (pts n)) entry)
+    refusals r a q e f s = let t = rw e at s in rw (e, f) (ap (λ (x : List ℕ). (Answer.Refused r, x)) (t .written ∙ ap (λ (p : List ℕ). lent p entry) z))
 
 -- ---- the outcome of `analyze`
-module _ {C S D : Type 0} (shown : S → D) (start : C → S) (step : C → S → ℕ → Float → S) (accepted : C → Bool) where
+module _ {C S D : Type 0} (shown : S → D) (start : C → S) (step : C → S → ℕ → Float → S) (tests : C → List (Bool × Refusal)) where
   abbrev outcome : C → List Float → List D → Answer × List D
-  outcome c xs entry = analyzed (accepted c) (length xs) (records shown start step c xs) entry
+  outcome c xs entry = analyzed (tests c) (length xs) (records shown start step c xs) entry
 
   abbrev judged : C → ℕ → ℕ → Answer
-  judged c n room = admittedAs (accepted c) n room
+  judged c n room = admittedAs (tests c) n room
 
   left : (c : C) (xs : List Float) (entry : List D)
       → let k = countOf (judged c (length xs) (length entry)) in written shown start step c xs k entry ≡ lent (records shown start step c xs k) entry
-  left c xs entry = written-lent shown start step c xs (countOf (judged c (length xs) (length entry))) entry (within-both (accepted c) (length xs) (length entry) .1)
+  left c xs entry = written-lent shown start step c xs (countOf (judged c (length xs) (length entry))) entry (within-both (tests c) (length xs) (length entry) .1)
 
   pub analyzed-leaves : (c : C) (xs : List Float) (entry : List D)
       → let r = judged c (length xs) (length entry) in _≡_ {A = Answer × List D} (r, written shown start step c xs (countOf r) entry) (outcome c xs entry)

@@ -1,7 +1,7 @@
 -- The order of a chart's refusals, and the answers of its calls. Rule 2.4. Definitions only.
 use Prim.Native.Nat.{ℕ}
-use mathlib.Core.Bool.{Bool, not}
-use mathlib.Core.List.{List, [], _∷_}
+use mathlib.Core.Bool.{Bool}
+use mathlib.Core.List.{List, [], _∷_, _++_}
 use lib.Dec.{ltb}
 use Rattle.refusals.specs.Limits.{maxReadings}
 use Rattle.refusals.specs.Tried.{counted}
@@ -9,18 +9,28 @@ use Rattle.refusals.specs.declared.Refusal.{Refusal}
 use Rattle.refusals.specs.declared.Refusal.the-variants as Refusal
 use Rattle.refusals.specs.declared.Answer.{Answer}
 use Rattle.refusals.specs.declared.Answer.the-variants as Answer
+use Rattle.charts.specs.declared.Settings.{Settings}
+use Rattle.charts.specs.Settings.{afterSettings}
 
--- 11 the settings are not `accepted`; 6 `n` readings are more than the limit; 7 `room` is less than `n`
-abbrev pub chartTests : Bool → ℕ → ℕ → List (Bool × Refusal)
-chartTests accepted n room = (not accepted, Refusal.Chart) ∷ (ltb maxReadings n, Refusal.TooLong) ∷ (ltb room n, Refusal.Room) ∷ []
+-- 6 `n` readings are more than the limit; 7 `room` is less than `n`
+abbrev pub sizeTests : ℕ → ℕ → List (Bool × Refusal)
+sizeTests n room = (ltb maxReadings n, Refusal.TooLong) ∷ (ltb room n, Refusal.Room) ∷ []
+
+-- the tests of a chart's `settings`, and then these
+abbrev pub chartTests : List (Bool × Refusal) → ℕ → ℕ → List (Bool × Refusal)
+chartTests settings n room = settings ++ sizeTests n room
 
 -- the first of them, or `count`
-unfoldable pub chartAnswer : Bool → ℕ → ℕ → ℕ → Answer
-chartAnswer accepted n room count = counted (chartTests accepted n room) count
+unfoldable pub chartAnswer : List (Bool × Refusal) → ℕ → ℕ → ℕ → Answer
+chartAnswer settings n room count = counted (chartTests settings n room) count
 
 -- what `analyze` answers: a record for each of `n` readings
-abbrev pub admittedAs : Bool → ℕ → ℕ → Answer
-admittedAs accepted n room = chartAnswer accepted n room n
+abbrev pub admittedAs : List (Bool × Refusal) → ℕ → ℕ → Answer
+admittedAs settings n room = chartAnswer settings n room n
+
+-- the same by what the settings' tests have come to
+abbrev pub admittedAfter : Settings → ℕ → ℕ → Answer
+admittedAfter settings n room = afterSettings Answer.Refused settings (counted (sizeTests n room) n)
 
 -- the same answer with the count `count`
 abbrev pub recounted : Answer → ℕ → Answer

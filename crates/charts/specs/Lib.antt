@@ -1,5 +1,6 @@
 pub mod Runs
 pub mod Among
+pub mod Settings
 pub mod Answers
 pub mod Outcomes
 pub mod Notes

@@ -1,8 +1,9 @@
 // What the charts share: the index of an observation and the place on a chart, the order of a chart's
 // refusals, and what is proved once of every chart.
 //
-// No function asks anything of its caller. A chart's refusals are 11, 6 and 7, tried in that order:
-// `specs/Answers`; what `analyze` and `signal_points` of any chart come to is `specs/Outcomes`.
+// No function asks anything of its caller. A chart's refusals are those of its settings, 15 to 18, and
+// then 6 and 7, tried in that order: `specs/Settings` and `specs/Answers`; what `analyze` and
+// `signal_points` of any chart come to is `specs/Outcomes`.
 //
 // `specs/Runs` says what a run over a series is, whatever its settings, states and records are, and
 // `proofs/Walk` walks the loop that fills a lent slice of such records, for any chart whose own proof
@@ -11,7 +12,8 @@
 // an array of a function's own may be lent to it (`proofs/ByValue`).
 ghost use mathlib.Core.Path.{_≡_};
 ghost use Rattle.refusals.specs.Tried.{countOf};
-ghost use Rattle.charts.specs.Answers.{admittedAs, recounted};
+ghost use Rattle.charts.specs.Settings.{settingTests, testedAs};
+ghost use Rattle.charts.specs.Answers.{admittedAfter, recounted};
 ghost use Rattle.charts.specs.Notes.{noted};
 use refusals::Answer;
 use refusals::MAX_READINGS;
@@ -22,6 +24,21 @@ pub struct Observation(pub usize);
 
 // The place of an observation on its chart, from 1.
 pub struct Place(pub usize);
+
+// Whether each setting of a chart is in range: its `target`, its `sigma`, its `weight` (k or lambda) and
+// its `bound` (h or L).
+pub struct InRange {
+    pub target: bool,
+    pub sigma: bool,
+    pub weight: bool,
+    pub bound: bool,
+}
+
+// That a chart's settings are in range, or the refusal of the first that is not.
+pub enum Settings {
+    Accepted,
+    Refused(Refusal),
+}
 
 // How many results `answer` says were written: its count, and 0 for a refusal.
 pub fn count(answer: Answer) -> usize
@@ -57,20 +74,40 @@ pub fn note(signal: bool, index: usize, count: usize, points: &mut [usize]) -> u
     count
 }
 
-// What `analyze` answers for `readings` readings with room for `room` results, with settings that are
-// in range or not, as `accepted` says.
-pub fn admitted(accepted: bool, readings: usize, room: usize) -> Answer
-    ensures { λ r. ⌜ r ≡ admittedAs accepted readings room ⌝ }
+// The settings of a chart tested in their order, where `settings` says whether each is in range.
+pub fn tested(settings: InRange) -> Settings
+    ensures { λ r. ⌜ r ≡ testedAs (settingTests settings) ⌝ }
 {
-    if accepted {
-        if MAX_READINGS < readings {
-            Answer::Refused(Refusal::TooLong)
-        } else if room < readings {
-            Answer::Refused(Refusal::Room)
-        } else {
-            Answer::Count(readings)
+    // All at once: a call with settings that are in range has one branch for them.
+    if settings.target & settings.sigma & settings.weight & settings.bound {
+        return Settings::Accepted;
+    }
+    if !settings.target {
+        return Settings::Refused(Refusal::Target);
+    }
+    if !settings.sigma {
+        return Settings::Refused(Refusal::Sigma);
+    }
+    if !settings.weight {
+        return Settings::Refused(Refusal::Weight);
+    }
+    Settings::Refused(Refusal::Bound)
+}
+
+// What `analyze` answers for `readings` readings with room for `room` results, after `settings`.
+pub fn admitted(settings: Settings, readings: usize, room: usize) -> Answer
+    ensures { λ r. ⌜ r ≡ admittedAfter settings readings room ⌝ }
+{
+    match settings {
+        Settings::Accepted => {
+            if MAX_READINGS < readings {
+                Answer::Refused(Refusal::TooLong)
+            } else if room < readings {
+                Answer::Refused(Refusal::Room)
+            } else {
+                Answer::Count(readings)
+            }
         }
-    } else {
-        Answer::Refused(Refusal::Chart)
+        Settings::Refused(refusal) => Answer::Refused(refusal),
     }
 }

@@ -3,18 +3,16 @@
 use mathlib.Core.Path.{_≡_, refl, sym, ap, _∙_}
 use Prim.Native.Nat.{ℕ, zero, suc, _+_, _≤_, _<_}
 use native.Mathlib.Omega.{arith}
-use mathlib.Core.Bool.{Bool, true, false, not, cond}
-use mathlib.Core.List.{List, [], _∷_}
+use mathlib.Core.Bool.{Bool, true, false, not, true≢false}
+use mathlib.Core.List.{List, [], _∷_, _++_}
 use lib.Dec.{T}
 use lib.ListN.{length, getD, drop, replicate, getD-replicate}
 use lib.Ieee.{Float, nan}
 use Rattle.floats.specs.Numbers.{_<ᶠ_}
 use Rattle.floats.specs.Finite.{finite}
 use Rattle.refusals.specs.Limits.{maxReadings}
-use Rattle.refusals.specs.Tried.{tried}
-use Rattle.refusals.specs.Said.{refusing, answered}
-use Rattle.refusals.proofs.TriedLaws.{no-result}
-use Rattle.refusals.specs.Stated.{stated}
+use Rattle.refusals.proofs.TriedLaws.{answered-passed, passed-first, passed-right}
+use Rattle.refusals.specs.declared.Refusal.{Refusal}
 use Rattle.refusals.specs.declared.Refusal.the-variants as Refusal
 use Rattle.charts.specs.Runs.{stateAt, lent}
 use Rattle.charts.specs.Answers.{chartAnswer}
@@ -28,9 +26,10 @@ use Rattle.cusum.specs.declared.Cusum.{Cusum}
 use Rattle.cusum.specs.declared.CusumResult.{CusumResult}
 use Rattle.cusum.specs.declared.Side.{Side}
 use Rattle.cusum.specs.declared.Heard.the-variants as Heard
-use Rattle.cusum.specs.Chart.{accepted, fresh, shownOf, startState, nextState, recordAt, signalOf, signalling, analyzed, signalled}
+use Rattle.cusum.specs.Chart.{accepted, testsOf, fresh, shownOf, startState, nextState, recordAt, signalOf, signalling, analyzed, signalled}
 use Rattle.cusum.specs.RunLength.{sumOf, fed, heardFrom, heard, heardAs, runLength}
 use Rattle.cusum.specs.Promise.{FirstHeard, Lasting}
+use Rattle.cusum.proofs.SettingLaws.{passed-accepted}
 use Rattle.cusum.proofs.Hearing.{fedOnce, heard-now, heard-later}
 use Rattle.cusum.proofs.RunLength.{heard-is-first}
 use Rattle.cusum.proofs.Promise.{in-series, lasting-signals, lasting-signals-lent}
@@ -52,13 +51,15 @@ record HeardFirst (c : Cusum) (v : Float) (side : Side) (n : ℕ) : Type 0 where
   first : FirstHeard c v side n
 
 heard-first : (c : Cusum) (v : Float) (side : Side) (n : ℕ) → heardAs (Heard.At n) ≡ runLength c v side → HeardFirst c v side n
-unfolding runLength tried
-heard-first c v side n e = go (accepted c) (finite v) refl e
+unfolding runLength
+heard-first c v side n e =
+    let level-test : Bool × Refusal = (not (finite v), Refusal.NonFinite 0 0) in
+    let said = answered-passed (testsOf c ++ (level-test ∷ [])) (n ∷ []) (heard c v side) e in
+    record { level = not-not (finite v) (passed-first level-test [] (passed-right (testsOf c) (level-test ∷ []) (said .0))); first = heard-is-first c v side n (sym (said .1)) .0 }
   where
-    go : (a b : Bool) → finite v ≡ b → answered (n ∷ []) ≡ cond (not a) (refusing Refusal.Chart) (cond (not b) (refusing (Refusal.NonFinite 0 0)) (answered (heard c v side))) → HeardFirst c v side n
-    go true true f e = record { level = rw f tt; first = heard-is-first c v side n (cc) .0 }
-    go true false f e = absurd (no-result (stated (Refusal.NonFinite 0 0)) (n ∷ []) e)
-    go false b f e = absurd (no-result (stated Refusal.Chart) (n ∷ []) e)
+    not-not : (b : Bool) → not b ≡ false → T b
+    not-not true e = tt
+    not-not false e = absurd (true≢false e)
 
 -- what is heard is one number or none, so that its first, where it is above 0, says it
 one-from : (c : Cusum) (v : Float) (side : Side) (n k m : ℕ) (r : CusumResult) → getD (heardFrom c v side k m r) 0 0 ≡ n → 0 < n → heardFrom c v side k m r ≡ n ∷ []
@@ -92,9 +93,9 @@ module _ (c : Cusum) (v : Float) (side : Side) (n : ℕ) (heard-at : heardAs (He
   pub signal-points-has : (entry exit : List ℕ) (count : ℕ) → _≡_ {A = Answer × List ℕ} (Answer.Count count, exit) (signalled c xs entry) → Among exit count (p + d)
   signal-points-has entry exit count a =
       let points = signalling c xs (length xs) in
-      let answer : Answer.Count count ≡ chartAnswer (accepted c) (length xs) (length entry) (length points) = ap (λ (o : Answer × List ℕ). o .0) a in
-      let counts = count-accepted (accepted c) (length xs) (length entry) (length points) count answer in
+      let answer : Answer.Count count ≡ chartAnswer (testsOf c) (length xs) (length entry) (length points) = ap (λ (o : Answer × List ℕ). o .0) a in
+      let counts = count-accepted (testsOf c) (length xs) (length entry) (length points) count answer in
       let left : exit ≡ lent points entry = ap (λ (o : Answer × List ℕ). o .1) a ∙ ap (λ (r : Answer). lent (provided r points) entry) (sym answer) in
       rw (left, counts .1)
       (among-front points (drop (length points) entry) (p + d)
-      (signal-among shownOf startState nextState c xs signalOf (length xs) (p + d) (in-series xs (p + d) (lasting .last)) (record-signals (counts .0))))
+      (signal-among shownOf startState nextState c xs signalOf (length xs) (p + d) (in-series xs (p + d) (lasting .last)) (record-signals (passed-accepted c (counts .0)))))

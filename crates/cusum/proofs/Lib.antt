@@ -1,4 +1,5 @@
 pub mod Types
+pub mod SettingLaws
 pub mod Allowance
 pub mod Hearing
 pub mod Sums

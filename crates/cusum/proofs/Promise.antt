@@ -31,9 +31,10 @@ use Rattle.cusum.specs.declared.Cusum.{Cusum}
 use Rattle.cusum.specs.declared.CusumResult.{CusumResult}
 use Rattle.cusum.specs.declared.Side.{Side}
 use Rattle.cusum.specs.declared.Side.the-variants.{Upper, Lower}
-use Rattle.cusum.specs.Chart.{accepted, score, fresh, stepOf, shownOf, startState, nextState, recordAt, records, analyzed}
+use Rattle.cusum.specs.Chart.{accepted, testsOf, score, fresh, stepOf, shownOf, startState, nextState, recordAt, records, analyzed}
 use Rattle.cusum.specs.RunLength.{sumOf, fed}
 use Rattle.cusum.specs.Promise.{FirstHeard, beyond, finites, Lasting}
+use Rattle.cusum.proofs.SettingLaws.{passed-accepted}
 use Rattle.cusum.proofs.Sums.{next, cut-from-zero, next-le}
 
 -- ---- what an accepted chart is
@@ -184,10 +185,10 @@ in-series (x ∷ xs) (suc i) t = suc-le-suc (in-series xs i t)
 pub lasting-signals-lent : (c : Cusum) (xs : List Float) (entry exit : List CusumResult) (k : ℕ) → _≡_ {A = Answer × List CusumResult} (Answer.Count k, exit) (analyzed c xs entry)
     → (side : Side) (v : Float) → T (finite v) → (n : ℕ) → FirstHeard c v side n → (p d : ℕ) → Lasting side v xs p d n → getD exit (p + d) fresh .signal ≡ true
 lasting-signals-lent c xs entry exit k a side v F n first p d l =
-    let answer : Answer.Count k ≡ admittedAs (accepted c) (length xs) (length entry) = ap (λ (o : Answer × List CusumResult). o .0) a in
-    let counts = count-accepted (accepted c) (length xs) (length entry) (length xs) k answer in
+    let answer : Answer.Count k ≡ admittedAs (testsOf c) (length xs) (length entry) = ap (λ (o : Answer × List CusumResult). o .0) a in
+    let counts = count-accepted (testsOf c) (length xs) (length entry) (length xs) k answer in
     let left : exit ≡ Runs.lent (records c xs k) entry = ap (λ (o : Answer × List CusumResult). o .1) a ∙ ap (λ (r : Answer). Runs.lent (records c xs (countOf r)) entry) (sym answer) in
     let here : p + d < k = omega (arith, counts .1, in-series xs (p + d) (l .last)) in
     ap (λ (r : CusumResult). r .signal)
     (ap (λ (t : List CusumResult). getD t (p + d) fresh) left ∙ record-in shownOf startState nextState c xs k (p + d) (drop (length (records c xs k)) entry) fresh here)
-    ∙ lasting-signals c (counts .0) side v F n first xs p d l
+    ∙ lasting-signals c (passed-accepted c (counts .0)) side v F n first xs p d l

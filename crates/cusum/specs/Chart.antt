@@ -7,9 +7,12 @@ use lib.Ieee.{Float}
 use Rattle.floats.specs.Numbers.{_+ᶠ_, _-ᶠ_, _/ᶠ_, _<ᶠ_, _≤ᶠ_, +0, ofWhole, ratio}
 use Rattle.floats.specs.Finite.{finite}
 use Rattle.floats.specs.MaxMin.{larger}
+use Rattle.charts.specs.Settings.{settingTests}
 use Rattle.charts.specs.Runs as Runs
 use Rattle.charts.specs.Outcomes as Outcomes
+use Rattle.refusals.specs.declared.Refusal.{Refusal}
 use Rattle.refusals.specs.declared.Answer.{Answer}
+use Rattle.charts.specs.declared.InRange.{InRange}
 use Rattle.charts.specs.declared.Observation.{Observation}
 use Rattle.cusum.specs.declared.Cusum.{Cusum}
 use Rattle.cusum.specs.declared.CusumResult.{CusumResult}
@@ -25,6 +28,13 @@ newOf target sigma = withParams target sigma (ratio 1 2) (ofWhole 5)
 -- target finite; sigma finite and above 0; k finite, not negative; h finite, above 0
 unfoldable pub accepted : Cusum → Bool
 accepted c = finite (c .target) && (finite (c .sigma) && +0 <ᶠ c .sigma) && (finite (c .k) && +0 ≤ᶠ c .k) && (finite (c .h) && +0 <ᶠ c .h)
+
+-- which of these four are in range, and their tests
+abbrev pub inRange : Cusum → InRange
+inRange c = record { target = finite (c .target); sigma = finite (c .sigma) && +0 <ᶠ c .sigma; weight = finite (c .k) && +0 ≤ᶠ c .k; bound = finite (c .h) && +0 <ᶠ c .h }
+
+unfoldable pub testsOf : Cusum → List (Bool × Refusal)
+testsOf c = settingTests (inRange c)
 
 -- how far the reading `x` lies from the target, in units of sigma
 abbrev pub score : Cusum → Float → Float
@@ -73,7 +83,7 @@ signalling c xs n = Runs.points shownOf startState nextState c xs signalOf n
 
 -- what `analyze` and `signal_points` answer and leave in the lent slice
 abbrev pub analyzed : Cusum → List Float → List CusumResult → Answer × List CusumResult
-analyzed c xs entry = Outcomes.analyzed (accepted c) (length xs) (records c xs) entry
+analyzed c xs entry = Outcomes.analyzed (testsOf c) (length xs) (records c xs) entry
 
 abbrev pub signalled : Cusum → List Float → List ℕ → Answer × List ℕ
-signalled c xs entry = Outcomes.signalled (accepted c) (length xs) (signalling c xs (length xs)) entry
+signalled c xs entry = Outcomes.signalled (testsOf c) (length xs) (signalling c xs (length xs)) entry

@@ -1,7 +1,7 @@
 -- The run length: a fresh chart that is fed one level. Rule 5.6. Definitions only.
 use Prim.Native.Nat.{ℕ, zero, suc}
 use mathlib.Core.Bool.{true, false, not}
-use mathlib.Core.List.{List, [], _∷_}
+use mathlib.Core.List.{List, [], _∷_, _++_}
 use lib.Ieee.{Float}
 use Rattle.floats.specs.Numbers.{_<ᶠ_}
 use Rattle.floats.specs.Finite.{finite}
@@ -15,7 +15,7 @@ use Rattle.cusum.specs.declared.Side.{Side}
 use Rattle.cusum.specs.declared.Side.the-variants.{Upper, Lower}
 use Rattle.cusum.specs.declared.Heard.{Heard}
 use Rattle.cusum.specs.declared.Heard.the-variants as Heard
-use Rattle.cusum.specs.Chart.{accepted, stepOf, fresh}
+use Rattle.cusum.specs.Chart.{testsOf, stepOf, fresh}
 
 -- the sum of a side in the record `r`
 abbrev pub sumOf : Side → CusumResult → Float
@@ -44,6 +44,6 @@ heardAs (Heard.At n) = answered (n ∷ [])
 heardAs Heard.NotHeard = answered []
 heardAs (Heard.Refused r) = refusing r
 
--- refusals 11 and 8, the latter at 0, 0, and then the reading
+-- the tests of the settings, then 8, at 0, 0, and then the reading
 unfoldable pub runLength : Cusum → Float → Side → Said
-runLength c v side = tried refusing ((not (accepted c), Refusal.Chart) ∷ (not (finite v), Refusal.NonFinite 0 0) ∷ []) (answered (heard c v side))
+runLength c v side = tried refusing (testsOf c ++ ((not (finite v), Refusal.NonFinite 0 0) ∷ [])) (answered (heard c v side))

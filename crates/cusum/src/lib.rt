@@ -12,14 +12,15 @@ ghost use mathlib.Core.Path.{_≡_};
 ghost use Rattle.cusum.specs.Chart.{newOf, withParams, analyzed, signalled};
 ghost use Rattle.cusum.specs.RunLength.{heardAs, runLength};
 use charts::Observation;
+use charts::Settings;
 use listen::listen;
 use refusals::Answer;
 use refusals::Refusal;
-use step::accepted;
 pub use step::following;
 pub use step::judge;
 use step::next;
 pub use step::start;
+use step::tested;
 
 pub struct Cusum {
     pub target: f64,
@@ -121,15 +122,18 @@ impl Cusum {
     pub fn run_length(self, level: f64, side: Side) -> Heard
         ensures { λ r. ⌜ heardAs r ≡ runLength self level side ⌝ }
     {
-        if accepted(self) {
-            if floats::finite(level) {
-                return listen(self, level, side);
+        let settings = tested(self);
+        match settings {
+            Settings::Accepted => {
+                if floats::finite(level) {
+                    return listen(self, level, side);
+                }
+                Heard::Refused(Refusal::NonFinite {
+                    channel: 0,
+                    index: 0,
+                })
             }
-            return Heard::Refused(Refusal::NonFinite {
-                channel: 0,
-                index: 0,
-            });
+            Settings::Refused(refusal) => Heard::Refused(refusal),
         }
-        Heard::Refused(Refusal::Chart)
     }
 }

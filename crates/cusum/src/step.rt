@@ -6,30 +6,38 @@ ghost use lib.ListN.{length, getD};
 ghost use lib.Ieee.{nan};
 ghost use Rattle.floats.specs.Numbers.{_+ᶠ_, _-ᶠ_, _<ᶠ_, +0};
 ghost use Rattle.floats.specs.MaxMin.{larger};
+ghost use Rattle.charts.specs.Settings.{testedAs};
 ghost use Rattle.charts.specs.Answers.{admittedAs};
-ghost use Rattle.cusum.specs.Chart.{accepted, moved, stepOf, startState, nextState, followingState};
+ghost use Rattle.cusum.specs.Chart.{testsOf, moved, stepOf, startState, nextState, followingState};
 use crate::Cusum;
 use crate::CusumResult;
 use crate::State;
+use charts::InRange;
 use charts::Observation;
+use charts::Settings;
 use refusals::Answer;
 
-// Whether the settings of `chart` are in range.
-pub(crate) fn accepted(chart: Cusum) -> bool
-    ensures { λ r. ⌜ r ≡ accepted chart ⌝ }
+// The settings of `chart`, tested in their order.
+pub(crate) fn tested(chart: Cusum) -> Settings
+    ensures { λ r. ⌜ r ≡ testedAs (testsOf chart) ⌝ }
 {
     let target = floats::finite(chart.target);
     let sigma = floats::finite(chart.sigma) & (0.0 < chart.sigma);
-    let k = floats::finite(chart.k) & (0.0 <= chart.k);
-    let h = floats::finite(chart.h) & (0.0 < chart.h);
-    target & sigma & k & h
+    let weight = floats::finite(chart.k) & (0.0 <= chart.k);
+    let bound = floats::finite(chart.h) & (0.0 < chart.h);
+    charts::tested(InRange {
+        target,
+        sigma,
+        weight,
+        bound,
+    })
 }
 
 // What `analyze` answers for `readings` readings and room for `room` results.
 pub fn judge(chart: Cusum, readings: usize, room: usize) -> Answer
-    ensures { λ r. ⌜ r ≡ admittedAs (accepted chart) readings room ⌝ }
+    ensures { λ r. ⌜ r ≡ admittedAs (testsOf chart) readings room ⌝ }
 {
-    charts::admitted(accepted(chart), readings, room)
+    charts::admitted(tested(chart), readings, room)
 }
 
 // `sum` less the allowance `k`, and 0 where that is not above 0. The difference is no negative zero, as

@@ -28,7 +28,7 @@ use Rattle.ewma.specs.declared.Ewma.{Ewma}
 use Rattle.ewma.specs.declared.EwmaResult.{EwmaResult}
 use Rattle.ewma.specs.declared.State.{State}
 use Rattle.ewma.specs.declared.Settled.{Settled}
-use Rattle.ewma.specs.Chart.{accepted, halfWidth, stepOf, fresh, itself, nextRecord, analyzed}
+use Rattle.ewma.specs.Chart.{testsOf, halfWidth, stepOf, fresh, itself, nextRecord, analyzed}
 use Rattle.ewma.specs.Settled.{faint, widthAt, settledFrom, settledOf, widthFrom, stepBy, shownOf, startState, nextState, followingState}
 use Rattle.ewma.proofs.Fading.{Within, one, rounded-within, unit-product, squared, faded-power, no-less-than-one, one-less-faint}
 
@@ -197,7 +197,7 @@ module _ (c : Ewma) (xs : List Float) where
       ∙ ap (λ (s : State). set (written itself fresh nextRecord c xs n entry) n (s .shown)) (state-settles (suc n) h)
 
 -- what `analyze` leaves is the chart's own
-pub settled-analyzed : (c : Ewma) (xs : List Float) (entry : List EwmaResult) → let r = admittedAs (accepted c) (length xs) (length entry) in _≡_ {A = Answer × List EwmaResult} (r, written shownOf startState nextState c xs (countOf r) entry) (analyzed c xs entry)
+pub settled-analyzed : (c : Ewma) (xs : List Float) (entry : List EwmaResult) → let r = admittedAs (testsOf c) (length xs) (length entry) in _≡_ {A = Answer × List EwmaResult} (r, written shownOf startState nextState c xs (countOf r) entry) (analyzed c xs entry)
 settled-analyzed c xs entry =
-    let r = admittedAs (accepted c) (length xs) (length entry) in
-    rw (written-settles c xs (countOf r) entry (few-records (accepted c) (length xs) (length entry))) (analyzed-leaves itself fresh nextRecord accepted c xs entry)
+    let r = admittedAs (testsOf c) (length xs) (length entry) in
+    rw (written-settles c xs (countOf r) entry (few-records (testsOf c) (length xs) (length entry))) (analyzed-leaves itself fresh nextRecord testsOf c xs entry)

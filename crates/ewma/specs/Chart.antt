@@ -8,9 +8,12 @@ use Rattle.floats.specs.Numbers.{_+ᶠ_, _-ᶠ_, _*ᶠ_, _/ᶠ_, _<ᶠ_, _≤�
 use Rattle.floats.specs.Finite.{finite}
 use Rattle.elementary.specs.Root.{sqrt}
 use Rattle.elementary.specs.Power.{powi}
+use Rattle.charts.specs.Settings.{settingTests}
 use Rattle.charts.specs.Runs as Runs
 use Rattle.charts.specs.Outcomes as Outcomes
+use Rattle.refusals.specs.declared.Refusal.{Refusal}
 use Rattle.refusals.specs.declared.Answer.{Answer}
+use Rattle.charts.specs.declared.InRange.{InRange}
 use Rattle.charts.specs.declared.Observation.{Observation}
 use Rattle.charts.specs.declared.Place.{Place}
 use Rattle.ewma.specs.declared.Ewma.{Ewma}
@@ -27,6 +30,13 @@ newOf target sigma = withParams target sigma (ratio 1 5) (ofWhole 3)
 unfoldable pub accepted : Ewma → Bool
 accepted c =
     finite (c .target) && (finite (c .sigma) && +0 <ᶠ c .sigma) && (+0 <ᶠ c .lambda && c .lambda ≤ᶠ ofWhole 1) && (finite (c .«l_factor») && +0 <ᶠ c .«l_factor»)
+
+-- which of these four are in range, and their tests
+abbrev pub inRange : Ewma → InRange
+inRange c = record { target = finite (c .target); sigma = finite (c .sigma) && +0 <ᶠ c .sigma; weight = +0 <ᶠ c .lambda && c .lambda ≤ᶠ ofWhole 1; bound = finite (c .«l_factor») && +0 <ᶠ c .«l_factor» }
+
+unfoldable pub testsOf : Ewma → List (Bool × Refusal)
+testsOf c = settingTests (inRange c)
 
 -- an index counts from 0, a place from 1
 abbrev pub placeOf : Observation → Place
@@ -82,7 +92,7 @@ signalling c xs n = Runs.points itself fresh nextRecord c xs signalOf n
 
 -- what `analyze` and `signal_points` answer and leave in the lent slice
 abbrev pub analyzed : Ewma → List Float → List EwmaResult → Answer × List EwmaResult
-analyzed c xs entry = Outcomes.analyzed (accepted c) (length xs) (records c xs) entry
+analyzed c xs entry = Outcomes.analyzed (testsOf c) (length xs) (records c xs) entry
 
 abbrev pub signalled : Ewma → List Float → List ℕ → Answer × List ℕ
-signalled c xs entry = Outcomes.signalled (accepted c) (length xs) (signalling c xs (length xs)) entry
+signalled c xs entry = Outcomes.signalled (testsOf c) (length xs) (signalling c xs (length xs)) entry

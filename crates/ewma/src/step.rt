@@ -1,7 +1,8 @@
 // The settings of a chart, one reading's record, and the states of a run.
 ghost use mathlib.Core.Path.{_≡_};
+ghost use Rattle.charts.specs.Settings.{testedAs};
 ghost use Rattle.charts.specs.Answers.{admittedAs};
-ghost use Rattle.ewma.specs.Chart.{accepted};
+ghost use Rattle.ewma.specs.Chart.{testsOf};
 ghost use Rattle.ewma.specs.Settled.{stepBy, startState, followingState};
 use crate::Ewma;
 use crate::EwmaResult;
@@ -10,26 +11,33 @@ use crate::State;
 use crate::resting::settled_from;
 use crate::resting::width_at;
 use crate::resting::width_from;
+use charts::InRange;
 use charts::Observation;
 use charts::Place;
+use charts::Settings;
 use refusals::Answer;
 
-// Whether the settings of `chart` are in range.
-fn accepted(chart: Ewma) -> bool
-    ensures { λ r. ⌜ r ≡ accepted chart ⌝ }
+// The settings of `chart`, tested in their order.
+fn tested(chart: Ewma) -> Settings
+    ensures { λ r. ⌜ r ≡ testedAs (testsOf chart) ⌝ }
 {
     let target = floats::finite(chart.target);
     let sigma = floats::finite(chart.sigma) & (0.0 < chart.sigma);
-    let lambda = (0.0 < chart.lambda) & (chart.lambda <= 1.0);
-    let l_factor = floats::finite(chart.l_factor) & (0.0 < chart.l_factor);
-    target & sigma & lambda & l_factor
+    let weight = (0.0 < chart.lambda) & (chart.lambda <= 1.0);
+    let bound = floats::finite(chart.l_factor) & (0.0 < chart.l_factor);
+    charts::tested(InRange {
+        target,
+        sigma,
+        weight,
+        bound,
+    })
 }
 
 // What `analyze` answers for `readings` readings and room for `room` results.
 pub fn judge(chart: Ewma, readings: usize, room: usize) -> Answer
-    ensures { λ r. ⌜ r ≡ admittedAs (accepted chart) readings room ⌝ }
+    ensures { λ r. ⌜ r ≡ admittedAs (testsOf chart) readings room ⌝ }
 {
-    charts::admitted(accepted(chart), readings, room)
+    charts::admitted(tested(chart), readings, room)
 }
 
 // The record of the reading `x` at `index`, with limits that lie `half_width` from the target, from the

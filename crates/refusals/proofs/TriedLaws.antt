@@ -1,12 +1,12 @@
--- Laws of answers that are tried: what is said of one, and that one whose tests all fail is its result. Assumes nothing.
+-- Laws of answers that are tried: what is said of one, that one whose tests all fail is its result, and that any other is a refusal. Assumes nothing.
 use Prim.Native.Nat.{ℕ}
 use mathlib.Core.Path.{_≡_, refl, ap}
 use mathlib.Core.Bool.{Bool, true, false, not, _&&_, cond, false≢true}
 use mathlib.Core.List.{List, [], _∷_, _++_}
 use Rattle.logic.proofs.Laws.{clash}
-use Rattle.refusals.specs.Stated.{Stated}
-use Rattle.refusals.specs.Tried.{tried, passed}
-use Rattle.refusals.specs.Said.{refused, answered}
+use Rattle.refusals.specs.Stated.{Stated, stated}
+use Rattle.refusals.specs.Tried.{tried, passed, counted}
+use Rattle.refusals.specs.Said.{refused, answered, refusing}
 use Rattle.refusals.specs.declared.Refusal.{Refusal}
 use Rattle.refusals.specs.declared.Answer.the-variants as Answer
 
@@ -61,9 +61,27 @@ passed-right [] us e = e
 passed-right ((true, r) ∷ ts) us e = absurd (false≢true e)
 passed-right ((false, r) ∷ ts) us e = passed-right ts us e
 
+-- ---- what comes of tests: none holds, or one does, and its refusal is the answer whatever was to be counted
+pub data Verdict (ts : List (Bool × Refusal)) : Type 0 where
+  passes : passed ts ≡ true → Verdict ts
+  refuses : (r : Refusal) → ((count : ℕ) → counted ts count ≡ Answer.Refused r) → Verdict ts
+
+pub verdict : (ts : List (Bool × Refusal)) → Verdict ts
+unfolding tried passed
+verdict [] = passes refl
+verdict ((true, r) ∷ ts) = refuses r (λ count. refl)
+verdict ((false, r) ∷ ts) = elim (verdict ts) [ passes p ↦ passes p | refuses q f ↦ refuses q f ]
+
 -- a refusal is no count, and what is said of it no result
 pub no-count : (r : Refusal) (k : ℕ) → Answer.Count k ≡ Answer.Refused r → ⊥
 no-count r k e = clash cc
 
 pub no-result : (s : Stated) (values : List ℕ) → answered values ≡ refused s → ⊥
 no-result s values e = clash cc
+
+-- where a result is said, no test held, and it is the result
+pub answered-passed : (ts : List (Bool × Refusal)) (values result : List ℕ) → answered values ≡ tried refusing ts (answered result) → (passed ts ≡ true) × (values ≡ result)
+unfolding tried passed
+answered-passed [] values result e = (refl, cc e)
+answered-passed ((true, r) ∷ ts) values result e = absurd (no-result (stated r) values e)
+answered-passed ((false, r) ∷ ts) values result e = answered-passed ts values result e

@@ -3,11 +3,12 @@
 //
 // The numbers and their values are those of rule 2.1. They are written here and nowhere else: a caller that
 // prints or stores a refusal asks `number` and `values`, and code that keeps a limit names it. So a new
-// refusal is a case here, a line of `specs/Stated` and of the laws, and the crate that gives it.
+// refusal is a case here, a line of `specs/Stated` and of the laws, and the crate that gives it. Numbers
+// have holes: one that was given up, as 11, is not given to another refusal.
 //
 // `specs/Stated` has the numbers and values, `specs/Tried` how refusals are tried one after the other,
-// `specs/Said` what an answer says outside, `specs/Limits` the limits. No two refusals are stated alike
-// (`proofs/Apart`).
+// `specs/Said` what an answer says outside, `specs/Limits` the limits. No two refusals are stated alike,
+// and none states 11 (`proofs/Apart`).
 ghost use mathlib.Core.Path.{_≡_};
 ghost use Rattle.refusals.specs.Stated.{stated, valuesOf};
 
@@ -39,10 +40,16 @@ pub enum Refusal {
     Pool,
     // The program's input is not of its form.
     Form,
-    // A chart setting is out of range.
-    Chart,
     // A piece's start is not below its end, or its end is past the channel.
     Piece,
+    // A chart's target is not finite.
+    Target,
+    // A chart's sigma is not finite or not above 0.
+    Sigma,
+    // A chart's weight is out of range: k is not finite or below 0, or lambda is not above 0 and at most 1.
+    Weight,
+    // A chart's bound, h or L, is not finite or not above 0.
+    Bound,
 }
 
 // How many records, indices or cuts a call wrote, or the refusal for which it wrote none.
@@ -78,8 +85,11 @@ impl Refusal {
             } => 8,
             Refusal::Pool => 9,
             Refusal::Form => 10,
-            Refusal::Chart => 11,
             Refusal::Piece => 12,
+            Refusal::Target => 15,
+            Refusal::Sigma => 16,
+            Refusal::Weight => 17,
+            Refusal::Bound => 18,
         }
     }
 

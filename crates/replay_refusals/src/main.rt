@@ -22,6 +22,9 @@ fn main() {
     });
     print(Refusal::Pool);
     print(Refusal::Form);
-    print(Refusal::Chart);
     print(Refusal::Piece);
+    print(Refusal::Target);
+    print(Refusal::Sigma);
+    print(Refusal::Weight);
+    print(Refusal::Bound);
 }

@@ -41,11 +41,11 @@ use Rattle.ewma.specs.Chart as Ewma
 use Rattle.worked_examples.specs.Calls.{Call, Outcome, resolvedBy, outcome}
 use Rattle.worked_examples.specs.Rows.{Row, Hold, sumsFrom, averagesFrom, ballsFrom}
 use Rattle.worked_examples.specs.Marked.{markedRows}
-use Rattle.worked_examples.specs.Further.{functionalRows, slackRows, roundingRows, furtherRoundingRows, inequalityRows, noiseRows, penaltyRows, refusalRows, chartRows, ballRows, furtherRows}
+use Rattle.worked_examples.specs.Further.{functionalRows, slackRows, roundingRows, furtherRoundingRows, inequalityRows, noiseRows, penaltyRows, refusalRows, chartRows, settingRows, ballRows, furtherRows}
 
 -- an outcome, opened: to unfold it is to unfold all that the line names
 opened : Call → Outcome
-unfolding outcome resolvedBy ballsFrom sumsFrom averagesFrom chartAnswer Cusum.stepOf Cusum.newOf Cusum.accepted heardFrom heard runLength Ewma.stepOf Ewma.newOf Ewma.accepted Ewma.halfWidth
+unfolding outcome resolvedBy ballsFrom sumsFrom averagesFrom chartAnswer Cusum.stepOf Cusum.newOf Cusum.testsOf heardFrom heard runLength Ewma.stepOf Ewma.newOf Ewma.testsOf Ewma.halfWidth
     searchTests roomTests shortRoom roomFits badPenalty shapeTests totalTo sameTo gapTo channelAt indexAt tried
     cutsFound cutsWith cutsBy takesFunctional functionalCuts prunedCuts penaltyValue penaltyOf bicPenalty foundOutcome outcomeBy cutsOf backFrom predecessorOf
     noiseSumTo noise spreadOf floorOf median differences differenceAt sorted insert tab
@@ -60,8 +60,8 @@ opened call = outcome call
 -- ---- the tables
 
 -- how many rows there are: of the marked examples P8, P9 and P13 have two each
-pub sizes : (length markedRows ≡ 16) × (length furtherRows ≡ 87)
-unfolding markedRows furtherRows functionalRows inequalityRows noiseRows refusalRows chartRows ballRows slackRows penaltyRows roundingRows furtherRoundingRows
+pub sizes : (length markedRows ≡ 16) × (length furtherRows ≡ 103)
+unfolding markedRows furtherRows functionalRows inequalityRows noiseRows refusalRows chartRows settingRows ballRows slackRows penaltyRows roundingRows furtherRoundingRows
 sizes = (refl, refl)
 
 -- P1 to P13
@@ -94,6 +94,10 @@ chart-rows : Hold chartRows
 unfolding opened chartRows
 chart-rows = refl
 
+setting-rows : Hold settingRows
+unfolding opened settingRows
+setting-rows = refl
+
 ball-rows : Hold ballRows
 unfolding opened ballRows
 ball-rows = refl
@@ -118,12 +122,13 @@ further-rounding-rows = refl
 pub further : Hold furtherRows
 unfolding furtherRows
 further =
-    both functionalRows (inequalityRows ++ (noiseRows ++ (refusalRows ++ (chartRows ++ (ballRows ++ (slackRows ++ (penaltyRows ++ (roundingRows ++ furtherRoundingRows)))))))) functional-rows
-    (both inequalityRows (noiseRows ++ (refusalRows ++ (chartRows ++ (ballRows ++ (slackRows ++ (penaltyRows ++ (roundingRows ++ furtherRoundingRows))))))) inequality-rows
-    (both noiseRows (refusalRows ++ (chartRows ++ (ballRows ++ (slackRows ++ (penaltyRows ++ (roundingRows ++ furtherRoundingRows)))))) noise-rows
-    (both refusalRows (chartRows ++ (ballRows ++ (slackRows ++ (penaltyRows ++ (roundingRows ++ furtherRoundingRows))))) refusal-rows
-    (both chartRows (ballRows ++ (slackRows ++ (penaltyRows ++ (roundingRows ++ furtherRoundingRows)))) chart-rows
+    both functionalRows (inequalityRows ++ (noiseRows ++ (refusalRows ++ (chartRows ++ (settingRows ++ (ballRows ++ (slackRows ++ (penaltyRows ++ (roundingRows ++ furtherRoundingRows))))))))) functional-rows
+    (both inequalityRows (noiseRows ++ (refusalRows ++ (chartRows ++ (settingRows ++ (ballRows ++ (slackRows ++ (penaltyRows ++ (roundingRows ++ furtherRoundingRows)))))))) inequality-rows
+    (both noiseRows (refusalRows ++ (chartRows ++ (settingRows ++ (ballRows ++ (slackRows ++ (penaltyRows ++ (roundingRows ++ furtherRoundingRows))))))) noise-rows
+    (both refusalRows (chartRows ++ (settingRows ++ (ballRows ++ (slackRows ++ (penaltyRows ++ (roundingRows ++ furtherRoundingRows)))))) refusal-rows
+    (both chartRows (settingRows ++ (ballRows ++ (slackRows ++ (penaltyRows ++ (roundingRows ++ furtherRoundingRows))))) chart-rows
+    (both settingRows (ballRows ++ (slackRows ++ (penaltyRows ++ (roundingRows ++ furtherRoundingRows)))) setting-rows
     (both ballRows (slackRows ++ (penaltyRows ++ (roundingRows ++ furtherRoundingRows))) ball-rows
     (both slackRows (penaltyRows ++ (roundingRows ++ furtherRoundingRows)) slack-rows
     (both penaltyRows (roundingRows ++ furtherRoundingRows) penalty-rows
-    (both roundingRows furtherRoundingRows rounding-rows further-rounding-rows))))))))
+    (both roundingRows furtherRoundingRows rounding-rows further-rounding-rows)))))))))

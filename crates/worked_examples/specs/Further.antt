@@ -1,4 +1,4 @@
--- Rows of our own, Q1 to Q87: each catches a wrong program that the worked examples let pass. Definitions only.
+-- Rows of our own, Q1 to Q103: each catches a wrong program that the worked examples let pass. Definitions only.
 use Prim.Native.Nat.{_-_, _*_, _^_}
 use mathlib.Core.Bool.{true, false}
 use mathlib.Core.List.{List, [], _∷_, _++_}
@@ -13,6 +13,7 @@ use Rattle.cusum.specs.Chart as Cusum
 use Rattle.cusum.specs.declared.Cusum.{Cusum}
 use Rattle.cusum.specs.declared.Side.the-variants.{Upper, Lower}
 use Rattle.ewma.specs.Chart as Ewma
+use Rattle.ewma.specs.declared.Ewma.{Ewma}
 use Rattle.worked_examples.specs.Rows.{Row, wholes, tenBillionths, ofPattern, custom, halves, sevens, within, among, plainly, strictly, finds, runsOut, refuses, resolves, gapAt, sumsAre, averagesAre, sumsSignal, averagesSignal, sumsRefuse, averagesRefuse, hears, refusesToHear, ball, ballsFrom, keeps}
 use Rattle.worked_examples.specs.Marked.{step, gap, sums, averages}
 
@@ -23,6 +24,13 @@ level = replicate 4 (ofWhole 1)
 -- a chart whose sigma is 0
 abbrev badSums : Cusum
 badSums = Cusum.newOf +0 +0
+
+-- charts whose settings are all out of range
+abbrev noSums : Cusum
+noSums = Cusum.withParams nan +0 (neg (ofWhole 1)) +0
+
+abbrev noAverages : Ewma
+noAverages = Ewma.withParams nan +0 +0 +0
 
 -- more readings than are taken
 abbrev tooMany : List Float
@@ -208,16 +216,16 @@ chartRows =
     ∷ sumsAre (Cusum.newOf +0 (ratio 1 (10 ^ 300))) (ratio (10 ^ 300) 1 ∷ neg (ratio (10 ^ 300) 1) ∷ []) ((+∞, +0, true) ∷ (+0, +∞, true) ∷ [])
     -- Q48 a gap is no signal, and its index is used up
     ∷ sumsSignal sums (ofWhole 8 ∷ nan ∷ ofWhole 8 ∷ []) 2 (0 ∷ 2 ∷ 7 ∷ [])
-    -- Q49 11 before 6
-    ∷ sumsRefuse badSums tooMany 0 (plain 11)
+    -- Q49 16 before 6
+    ∷ sumsRefuse badSums tooMany 0 (plain 16)
     -- Q50 6 before 7
     ∷ sumsRefuse sums tooMany 0 (plain 6)
     -- Q51 4,096 readings are not too many, and a record short
     ∷ sumsRefuse sums (replicate 4096 +0) 4095 (plain 7)
     -- Q52 the run length of the lower side
     ∷ hears sums (neg (ofWhole 3)) Lower 3
-    -- Q53 11 before 8
-    ∷ refusesToHear badSums nan Upper (plain 11)
+    -- Q53 16 before 8
+    ∷ refusesToHear badSums nan Upper (plain 16)
     -- Q54 a level that is not finite
     ∷ refusesToHear sums +∞ Upper (gapAt 0 0)
     -- Q55 a gap is no signal of an EWMA
@@ -229,7 +237,44 @@ chartRows =
     -- Q58 and below 2.25
     ∷ averagesSignal (Ewma.withParams +0 (ofWhole 1) (ratio 1 2) (ofWhole 4)) (ofWhole 0 ∷ ratio 9 2 ∷ []) 1 (1 ∷ 7 ∷ [])
     -- Q59 lambda 0, and no room
-    ∷ averagesRefuse (Ewma.withParams +0 (ofWhole 1) +0 (ofWhole 3)) (wholes (3 ∷ [])) 0 (plain 11)
+    ∷ averagesRefuse (Ewma.withParams +0 (ofWhole 1) +0 (ofWhole 3)) (wholes (3 ∷ [])) 0 (plain 17)
+    ∷ []
+
+-- ---- settings of charts that are out of range: the first of them is named
+unfoldable pub settingRows : List Row
+settingRows =
+    -- Q88 15 before 16, on a series without readings
+    sumsRefuse (Cusum.withParams nan +0 (ratio 1 2) (ofWhole 5)) [] 0 (plain 15)
+    -- Q89 16 before 17
+    ∷ sumsRefuse (Cusum.withParams +0 +∞ (neg (ofWhole 1)) (ofWhole 5)) (wholes (3 ∷ [])) 1 (plain 16)
+    -- Q90 17 before 18
+    ∷ sumsRefuse (Cusum.withParams +0 (ofWhole 1) nan +0) (wholes (3 ∷ [])) 1 (plain 17)
+    -- Q91 18 before 6
+    ∷ sumsRefuse (Cusum.withParams +0 (ofWhole 1) (ratio 1 2) +0) tooMany 0 (plain 18)
+    -- Q92 18 before 8
+    ∷ refusesToHear (Cusum.withParams +0 (ofWhole 1) (ratio 1 2) +∞) nan Upper (plain 18)
+    -- Q93 all four, with too many readings and no room
+    ∷ sumsRefuse noSums tooMany 0 (plain 15)
+    -- Q94 all four, with a level that is not finite
+    ∷ refusesToHear noSums nan Lower (plain 15)
+    -- Q95 a sigma of -0
+    ∷ sumsRefuse (Cusum.newOf +0 (neg +0)) (wholes (3 ∷ [])) 1 (plain 16)
+    -- Q96 a target and a k of -0 are accepted
+    ∷ sumsAre (Cusum.withParams (neg +0) (ofWhole 1) (neg +0) (ofWhole 5)) (wholes (8 ∷ [])) ((ofWhole 8, +0, true) ∷ [])
+    -- Q97 an h of -0
+    ∷ refusesToHear (Cusum.withParams +0 (ofWhole 1) (ratio 1 2) (neg +0)) (ofWhole 3) Upper (plain 18)
+    -- Q98 15 before 16 of an EWMA, all four, with too many readings and no room
+    ∷ averagesRefuse noAverages tooMany 0 (plain 15)
+    -- Q99 16 before 17 of an EWMA
+    ∷ averagesRefuse (Ewma.withParams +0 (neg +0) (ofWhole 2) (ofWhole 3)) [] 0 (plain 16)
+    -- Q100 17 before 18 of an EWMA
+    ∷ averagesRefuse (Ewma.withParams +0 (ofWhole 1) (ofWhole 2) +0) (wholes (3 ∷ [])) 1 (plain 17)
+    -- Q101 18 before 6 of an EWMA
+    ∷ averagesRefuse (Ewma.withParams +0 (ofWhole 1) (ofWhole 1) +∞) tooMany 0 (plain 18)
+    -- Q102 a lambda of -0
+    ∷ averagesRefuse (Ewma.withParams +0 (ofWhole 1) (neg +0) (ofWhole 3)) (wholes (3 ∷ [])) 1 (plain 17)
+    -- Q103 an L of -0
+    ∷ averagesRefuse (Ewma.withParams +0 (ofWhole 1) (ofWhole 1) (neg +0)) (wholes (3 ∷ [])) 1 (plain 18)
     ∷ []
 
 -- ---- the balls of a candidate, of which it keeps 64
@@ -258,4 +303,4 @@ ballRows =
 
 unfoldable pub furtherRows : List Row
 furtherRows =
-    functionalRows ++ (inequalityRows ++ (noiseRows ++ (refusalRows ++ (chartRows ++ (ballRows ++ (slackRows ++ (penaltyRows ++ (roundingRows ++ furtherRoundingRows))))))))
+    functionalRows ++ (inequalityRows ++ (noiseRows ++ (refusalRows ++ (chartRows ++ (settingRows ++ (ballRows ++ (slackRows ++ (penaltyRows ++ (roundingRows ++ furtherRoundingRows)))))))))

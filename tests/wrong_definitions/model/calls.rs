@@ -35,28 +35,28 @@ pub fn outcome(call: &Call) -> Outcome {
 fn cusum_outcome(chart: Chart, xs: &[f64], entry: &[CusumResult]) -> Outcome {
     let c = cusum::made(chart);
     let records = cusum::records(&c, xs);
-    let (said, left) = analyzed(cusum::accepted(&c), xs.len(), &records, entry);
+    let (said, left) = analyzed(&cusum::tests_of(&c), xs.len(), &records, entry);
     Outcome::Sums(said, left)
 }
 
 fn cusum_points(chart: Chart, xs: &[f64], entry: &[usize]) -> Outcome {
     let c = cusum::made(chart);
     let found = points(&cusum::records(&c, xs), |r| r.signal);
-    let (said, left) = signalled(cusum::accepted(&c), xs.len(), &found, entry);
+    let (said, left) = signalled(&cusum::tests_of(&c), xs.len(), &found, entry);
     Outcome::Points(said, left)
 }
 
 fn ewma_outcome(chart: Chart, xs: &[f64], entry: &[EwmaResult]) -> Outcome {
     let c = ewma::made(chart);
     let records = ewma::records(&c, xs);
-    let (said, left) = analyzed(ewma::accepted(&c), xs.len(), &records, entry);
+    let (said, left) = analyzed(&ewma::tests_of(&c), xs.len(), &records, entry);
     Outcome::Averages(said, left)
 }
 
 fn ewma_points(chart: Chart, xs: &[f64], entry: &[usize]) -> Outcome {
     let c = ewma::made(chart);
     let found = points(&ewma::records(&c, xs), |r| r.signal);
-    let (said, left) = signalled(ewma::accepted(&c), xs.len(), &found, entry);
+    let (said, left) = signalled(&ewma::tests_of(&c), xs.len(), &found, entry);
     Outcome::Points(said, left)
 }
 

@@ -1,4 +1,4 @@
-//! `crates/charts/specs`: Runs, Answers, Outcomes.
+//! `crates/charts/specs`: Runs, Settings, Answers, Outcomes.
 
 use crate::areas::rest_of;
 use crate::refusals::{counted, Refusal, Test};
@@ -17,20 +17,41 @@ fn lent<D: Clone>(results: &[D], entry: &[D]) -> Vec<D> {
     [results, rest_of(entry, results.len())].concat()
 }
 
-// ---- Answers
+// ---- Settings
 
-/// A chart's refusals, for n readings and room for `room` results: 11 the settings, 6 too long, 7 the room.
-fn chart_tests(accepted: bool, n: usize, room: usize) -> Vec<Test> {
+/// Whether each setting is in range: the target, sigma, the weight (k or lambda), the bound (h or L).
+pub struct InRange {
+    pub target: bool,
+    pub sigma: bool,
+    pub weight: bool,
+    pub bound: bool,
+}
+
+/// 15 to 18.
+pub fn setting_tests(s: InRange) -> Vec<Test> {
     vec![
-        (!accepted, Refusal::Chart),
-        (4096 < n, Refusal::TooLong),
-        (room < n, Refusal::Room),
+        (!s.target, Refusal::Target),
+        (!s.sigma, Refusal::Sigma),
+        (!s.weight, Refusal::Weight),
+        (!s.bound, Refusal::Bound),
     ]
 }
 
+// ---- Answers
+
+/// 6 n readings are more than the limit; 7 `room` is less than n.
+fn size_tests(n: usize, room: usize) -> Vec<Test> {
+    vec![(4096 < n, Refusal::TooLong), (room < n, Refusal::Room)]
+}
+
+/// The tests of a chart's settings, and then these.
+fn chart_tests(settings: &[Test], n: usize, room: usize) -> Vec<Test> {
+    [settings, &size_tests(n, room)].concat()
+}
+
 /// The first of them, or a count.
-fn chart_answer(accepted: bool, n: usize, room: usize, count: usize) -> Said {
-    counted(&chart_tests(accepted, n, room), count)
+fn chart_answer(settings: &[Test], n: usize, room: usize, count: usize) -> Said {
+    counted(&chart_tests(settings, n, room), count)
 }
 
 // ---- Outcomes
@@ -44,20 +65,25 @@ fn provided<'a, D>(said: &Said, written: &'a [D]) -> &'a [D] {
 }
 
 /// `analyze` of n readings: a record for each at the front of the lent ones.
-pub fn analyzed<D: Clone>(accepted: bool, n: usize, records: &[D], entry: &[D]) -> (Said, Vec<D>) {
-    let said = chart_answer(accepted, n, entry.len(), n);
+pub fn analyzed<D: Clone>(
+    settings: &[Test],
+    n: usize,
+    records: &[D],
+    entry: &[D],
+) -> (Said, Vec<D>) {
+    let said = chart_answer(settings, n, entry.len(), n);
     let left = lent(provided(&said, records), entry);
     (said, left)
 }
 
 /// `signal_points` of n readings, which needs room for as many: the indices at the front of the lent ones.
 pub fn signalled(
-    accepted: bool,
+    settings: &[Test],
     n: usize,
     points: &[usize],
     entry: &[usize],
 ) -> (Said, Vec<usize>) {
-    let said = chart_answer(accepted, n, entry.len(), points.len());
+    let said = chart_answer(settings, n, entry.len(), points.len());
     let left = lent(provided(&said, points), entry);
     (said, left)
 }

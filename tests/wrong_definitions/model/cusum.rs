@@ -1,7 +1,8 @@
 //! `crates/cusum/specs`: Chart, RunLength.
 
+use crate::charts::{setting_tests, InRange};
 use crate::floats::{finite, larger};
-use crate::refusals::{refusing, tried, Refusal};
+use crate::refusals::{refusing, tried, Refusal, Test};
 use cases::{Chart, CusumResult, Said, Side};
 
 // ---- Chart
@@ -38,11 +39,17 @@ pub fn made(chart: Chart) -> Cusum {
 }
 
 /// Target finite; sigma finite and above 0; k finite, not negative; h finite, above 0.
-pub fn accepted(c: &Cusum) -> bool {
-    let sigma = finite(c.sigma) && 0.0 < c.sigma;
-    let k = finite(c.k) && 0.0 <= c.k;
-    let h = finite(c.h) && 0.0 < c.h;
-    finite(c.target) && sigma && k && h
+fn in_range(c: &Cusum) -> InRange {
+    InRange {
+        target: finite(c.target),
+        sigma: finite(c.sigma) && 0.0 < c.sigma,
+        weight: finite(c.k) && 0.0 <= c.k,
+        bound: finite(c.h) && 0.0 < c.h,
+    }
+}
+
+pub fn tests_of(c: &Cusum) -> Vec<Test> {
+    setting_tests(in_range(c))
 }
 
 /// How far a reading lies from the target, in units of sigma.
@@ -116,11 +123,9 @@ fn heard(c: &Cusum, v: f64, side: Side) -> Vec<usize> {
     Vec::new()
 }
 
-/// Refusals 11 and 8, the latter at 0, 0, and then the reading.
+/// The tests of the settings, then 8, at 0, 0, and then the reading.
 pub fn run_length(c: &Cusum, v: f64, side: Side) -> Said {
-    let tests = [
-        (!accepted(c), Refusal::Chart),
-        (!finite(v), Refusal::NonFinite(0, 0)),
-    ];
+    let level = [(!finite(v), Refusal::NonFinite(0, 0))];
+    let tests = [&tests_of(c)[..], &level].concat();
     tried(refusing, &tests, || Said::Answered(heard(c, v, side)))
 }

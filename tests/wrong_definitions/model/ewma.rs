@@ -1,7 +1,9 @@
 //! `crates/ewma/specs`: Chart.
 
+use crate::charts::{setting_tests, InRange};
 use crate::elementary::{powi, sqrt};
 use crate::floats::finite;
+use crate::refusals::Test;
 use cases::{Chart, EwmaResult};
 
 #[derive(Clone, Copy)]
@@ -36,11 +38,17 @@ pub fn made(chart: Chart) -> Ewma {
 }
 
 /// Target finite; sigma finite and above 0; lambda in (0, 1]; L finite, above 0.
-pub fn accepted(c: &Ewma) -> bool {
-    let sigma = finite(c.sigma) && 0.0 < c.sigma;
-    let lambda = 0.0 < c.lambda && c.lambda <= 1.0;
-    let factor = finite(c.factor) && 0.0 < c.factor;
-    finite(c.target) && sigma && lambda && factor
+fn in_range(c: &Ewma) -> InRange {
+    InRange {
+        target: finite(c.target),
+        sigma: finite(c.sigma) && 0.0 < c.sigma,
+        weight: 0.0 < c.lambda && c.lambda <= 1.0,
+        bound: finite(c.factor) && 0.0 < c.factor,
+    }
+}
+
+pub fn tests_of(c: &Ewma) -> Vec<Test> {
+    setting_tests(in_range(c))
 }
 
 /// An index counts from 0, a place from 1.

@@ -14,12 +14,15 @@ pub enum Refusal {
     NonFinite(usize, usize),
     Pool,
     Form,
-    Chart,
     Piece,
+    Target,
+    Sigma,
+    Weight,
+    Bound,
 }
 
 /// In the order of rule 2.1.
-pub const TABLE: [Refusal; 12] = [
+pub const TABLE: [Refusal; 15] = [
     Refusal::Penalty,
     Refusal::MinLen,
     Refusal::Channels,
@@ -30,8 +33,11 @@ pub const TABLE: [Refusal; 12] = [
     Refusal::NonFinite(0, 1),
     Refusal::Pool,
     Refusal::Form,
-    Refusal::Chart,
     Refusal::Piece,
+    Refusal::Target,
+    Refusal::Sigma,
+    Refusal::Weight,
+    Refusal::Bound,
 ];
 
 fn plain(number: usize) -> Stated {
@@ -54,8 +60,11 @@ pub fn stated(refusal: Refusal) -> Stated {
         },
         Refusal::Pool => plain(9),
         Refusal::Form => plain(10),
-        Refusal::Chart => plain(11),
         Refusal::Piece => plain(12),
+        Refusal::Target => plain(15),
+        Refusal::Sigma => plain(16),
+        Refusal::Weight => plain(17),
+        Refusal::Bound => plain(18),
     }
 }
 

@@ -6,13 +6,13 @@ use denote.Shadow.{shadow}
 use denote.Array.{each}
 use Rattle.charts.specs.Answers.{admittedAs}
 use Rattle.refusals.specs.declared.Answer.{Answer}
-use Rattle.cusum.specs.Chart.{accepted}
+use Rattle.cusum.specs.Chart.{testsOf}
 use Rattle.cusum.specs.declared.Cusum.{Cusum}
 use Rattle.cusum.specs.declared.CusumResult.{CusumResult}
 use Rattle.cusum.proofs.CusumResult as R
 
 abbrev pub judgeOf : Cusum → ℕ → ℕ → Answer
-judgeOf c n room = admittedAs (accepted c) n room
+judgeOf c n room = admittedAs (testsOf c) n room
 
 -- what an array of records owns it owns as a field too, where its records stand as tuples
 pub as-field : (ys : List CusumResult) (us : List Val) → shadow (each CusumResult (R.the-row .own) ys us) → shadow (each (R.the-field .row .Denot) (R.the-field .row .own) (map (R.the-field .into) ys) us)

@@ -6,13 +6,13 @@ use denote.Shadow.{shadow}
 use denote.Array.{each}
 use Rattle.charts.specs.Answers.{admittedAs}
 use Rattle.refusals.specs.declared.Answer.{Answer}
-use Rattle.ewma.specs.Chart.{accepted}
+use Rattle.ewma.specs.Chart.{testsOf}
 use Rattle.ewma.specs.declared.Ewma.{Ewma}
 use Rattle.ewma.specs.declared.EwmaResult.{EwmaResult}
 use Rattle.ewma.proofs.EwmaResult as R
 
 abbrev pub judgeOf : Ewma → ℕ → ℕ → Answer
-judgeOf c n room = admittedAs (accepted c) n room
+judgeOf c n room = admittedAs (testsOf c) n room
 
 -- what an array of records owns it owns as a field too, where its records stand as tuples
 pub as-field : (ys : List EwmaResult) (us : List Val) → shadow (each EwmaResult (R.the-row .own) ys us) → shadow (each (R.the-field .row .Denot) (R.the-field .row .own) (map (R.the-field .into) ys) us)

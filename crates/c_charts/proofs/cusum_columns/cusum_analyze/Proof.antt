@@ -10,7 +10,7 @@ use Rattle.refusals.specs.declared.Answer.{Answer}
 use Rattle.charts.specs.Answers.{admittedAs}
 use Rattle.charts.proofs.Answers.{few-records}
 use Rattle.charts.proofs.Columns.{Going, not-gone}
-use Rattle.cusum.specs.Chart.{accepted, shownOf, startState, nextState}
+use Rattle.cusum.specs.Chart.{testsOf, shownOf, startState, nextState}
 use Rattle.c_answers.specs.Told.{countedOf}
 use Rattle.c_charts.specs.CusumColumns.{roomOf}
 use Rattle.c_charts.proofs.CusumLaws.{Filled, Room, arrays-are, written-room, upper-length, lower-length, signal-length, index-length, all-done, one-more}
@@ -43,10 +43,10 @@ following-requires : tie.Need-following-requires Inv-loop μ-loop
 following-requires c κs = tt
 
 -- the answer, and that its records have room
-answered : (c : tie.At-loop Inv-loop μ-loop) → let a = c .before .before .before .before .before .before .before .before .before .before .args in c .before .before .before .judge .result ≡ admittedAs (accepted (a .chart)) (length (now (a .«data»))) (roomOf (now (a .s-upper)) (now (a .s-lower)) (now (a .signal)) (now (a .index)))
+answered : (c : tie.At-loop Inv-loop μ-loop) → let a = c .before .before .before .before .before .before .before .before .before .before .args in c .before .before .before .judge .result ≡ admittedAs (testsOf (a .chart)) (length (now (a .«data»))) (roomOf (now (a .s-upper)) (now (a .s-lower)) (now (a .signal)) (now (a .index)))
 answered c = c .before .before .before .judge .ensures ∙ rw (c .before .before .before .before .shortest .ensures) refl
 
-counted : (c : tie.At-loop Inv-loop μ-loop) → let a = c .before .before .before .before .before .before .before .before .before .before .args in c .before .before .count .result ≡ countOf (admittedAs (accepted (a .chart)) (length (now (a .«data»))) (roomOf (now (a .s-upper)) (now (a .s-lower)) (now (a .signal)) (now (a .index))))
+counted : (c : tie.At-loop Inv-loop μ-loop) → let a = c .before .before .before .before .before .before .before .before .before .before .args in c .before .before .count .result ≡ countOf (admittedAs (testsOf (a .chart)) (length (now (a .«data»))) (roomOf (now (a .s-upper)) (now (a .s-lower)) (now (a .signal)) (now (a .index))))
 counted c = c .before .before .count .ensures ∙ ap countOf (answered c)
 
 fits : (c : tie.At-loop Inv-loop μ-loop) → let a = c .before .before .before .before .before .before .before .before .before .before .args in (c .before .before .count .result ≤ length (now (a .«data»))) × Room (c .before .before .count .result) (now (a .s-upper)) (now (a .s-lower)) (now (a .signal)) (now (a .index))

@@ -11,7 +11,7 @@ use Rattle.charts.specs.Answers.{admittedAs}
 use Rattle.charts.proofs.Answers.{few-records}
 use Rattle.charts.specs.Runs.{following}
 use Rattle.charts.proofs.Columns.{Going, not-gone}
-use Rattle.ewma.specs.Chart.{accepted, fresh, itself, nextRecord}
+use Rattle.ewma.specs.Chart.{testsOf, fresh, itself, nextRecord}
 use Rattle.ewma.specs.Settled.{settledOf}
 use Rattle.ewma.proofs.AtRest.{following-settles}
 use Rattle.c_answers.specs.Told.{countedOf}
@@ -49,10 +49,10 @@ following-requires : tie.Need-following-requires Inv-loop μ-loop
 following-requires c κs = tt
 
 -- the answer, and that its records have room
-answered : (c : tie.At-loop Inv-loop μ-loop) → let a = c .before .before .before .before .before .before .before .before .before .before .before .before .args in c .before .before .before .judge .result ≡ admittedAs (accepted (a .chart)) (length (now (a .«data»))) (roomOf (now (a .ewma)) (now (a .ucl)) (now (a .lcl)) (now (a .signal)) (now (a .index)))
+answered : (c : tie.At-loop Inv-loop μ-loop) → let a = c .before .before .before .before .before .before .before .before .before .before .before .before .args in c .before .before .before .judge .result ≡ admittedAs (testsOf (a .chart)) (length (now (a .«data»))) (roomOf (now (a .ewma)) (now (a .ucl)) (now (a .lcl)) (now (a .signal)) (now (a .index)))
 answered c = c .before .before .before .judge .ensures ∙ rw (c .before .before .before .before .shortest .ensures, c .before .before .before .before .before .shorter .ensures) refl
 
-counted : (c : tie.At-loop Inv-loop μ-loop) → let a = c .before .before .before .before .before .before .before .before .before .before .before .before .args in c .before .before .count .result ≡ countOf (admittedAs (accepted (a .chart)) (length (now (a .«data»))) (roomOf (now (a .ewma)) (now (a .ucl)) (now (a .lcl)) (now (a .signal)) (now (a .index))))
+counted : (c : tie.At-loop Inv-loop μ-loop) → let a = c .before .before .before .before .before .before .before .before .before .before .before .before .args in c .before .before .count .result ≡ countOf (admittedAs (testsOf (a .chart)) (length (now (a .«data»))) (roomOf (now (a .ewma)) (now (a .ucl)) (now (a .lcl)) (now (a .signal)) (now (a .index))))
 counted c = c .before .before .count .ensures ∙ ap countOf (answered c)
 
 fits : (c : tie.At-loop Inv-loop μ-loop) → let a = c .before .before .before .before .before .before .before .before .before .before .before .before .args in (c .before .before .count .result ≤ length (now (a .«data»))) × Room (c .before .before .count .result) (now (a .ewma)) (now (a .ucl)) (now (a .lcl)) (now (a .signal)) (now (a .index))

@@ -1,16 +1,28 @@
 -- `cusum::Cusum::run_length` meets its contract. Assumes nothing.
-use mathlib.Core.Path.{_≡_, sym, _∙_}
-use mathlib.Core.Bool.{true, false}
+use mathlib.Core.Path.{_≡_, sym, ap, _∙_}
+use mathlib.Core.Bool.{true, false, not}
+use mathlib.Core.List.{[], _∷_}
 use borrow.Author.Needs.{needs}
+use lib.Ieee.{Float}
 use Rattle.floats.specs.Finite.{finite}
 use Rattle.refusals.specs.Tried.{tried}
-use Rattle.cusum.specs.Chart.{accepted}
-use Rattle.cusum.specs.RunLength.{runLength}
+use Rattle.refusals.specs.Said.{Said, refusing, answered}
+use Rattle.refusals.specs.declared.Refusal.the-variants as Refusal
+use Rattle.charts.specs.declared.Settings.{Settings}
+use Rattle.charts.specs.Settings.{testedAs, afterSettings}
+use Rattle.charts.proofs.SettingLaws.{tested-first}
+use Rattle.cusum.specs.declared.Cusum.{Cusum}
+use Rattle.cusum.specs.declared.Side.{Side}
+use Rattle.cusum.specs.Chart.{testsOf}
+use Rattle.cusum.specs.RunLength.{heard, runLength}
 use Rattle.cusum.proofs.Cusum.run_length.Statement.{statement}
 use Rattle.cusum.proofs.Cusum.run_length.Tie as tie
 
-accepted-requires : tie.Need-accepted-requires
-accepted-requires c κs = search needs
+tested-requires : tie.Need-tested-requires
+tested-requires c κs = search needs
+
+enum-told : tie.Need-enum-told
+enum-told c = search needs
 
 finite-requires : tie.Need-finite-requires
 finite-requires c κs = search needs
@@ -18,27 +30,38 @@ finite-requires c κs = search needs
 listen-requires : tie.Need-listen-requires
 listen-requires c κs = search needs
 
+enum-known-settings : tie.Need-enum-known-settings
+enum-known-settings c = search needs
+
+-- what is said once the settings `s` are tested
+abbrev after : Cusum → Float → Side → Settings → Said
+after c v side s = afterSettings refusing s (tried refusing ((not (finite v), Refusal.NonFinite 0 0) ∷ []) (answered (heard c v side)))
+
+run-length-after : (c : Cusum) (v : Float) (side : Side) (s : Settings) → s ≡ testedAs (testsOf c) → after c v side s ≡ runLength c v side
+unfolding runLength
+run-length-after c v side s e = ap (after c v side) e ∙ tested-first refusing (testsOf c) ((not (finite v), Refusal.NonFinite 0 0) ∷ []) (answered (heard c v side))
+
 returns : tie.Need-returns
-unfolding runLength tried
+unfolding tried
 returns c =
-    let start = c .before .before .before .before .before in
-    let e : accepted (start .args .self) ≡ true = sym (c .before .before .before .before .accepted .ensures) ∙ c .before .before .before .if1 .taken in
-    let f : finite (start .args .level) ≡ true = sym (c .before .before .finite .ensures) ∙ c .before .if2 .taken in
-    c .listen .ensures ∙ rw (runLength, e, f)
+    let there = c .before .before .before in
+    let a = there .before .before .before .args in
+    let f : finite (a .level) ≡ true = sym (c .before .before .finite .ensures) ∙ c .before .if1 .taken in
+    c .listen .ensures ∙ rw (there .enum-told .given .1, f) at (run-length-after (a .self) (a .level) (a .side) _ (there .before .before .tested .ensures))
 
 returns-2 : tie.Need-returns-2
-unfolding runLength tried
+unfolding tried
 returns-2 c =
-    let start = c .before .before .before .before in
-    let e : accepted (start .args .self) ≡ true = sym (c .before .before .before .accepted .ensures) ∙ c .before .before .if1 .taken in
-    let f : finite (start .args .level) ≡ false = sym (c .before .finite .ensures) ∙ c .if2 .left in
-    rw (runLength, e, f)
+    let there = c .before .before in
+    let a = there .before .before .before .args in
+    let f : finite (a .level) ≡ false = sym (c .before .finite .ensures) ∙ c .if1 .left in
+    rw (there .enum-told .given .1, f) at (run-length-after (a .self) (a .level) (a .side) _ (there .before .before .tested .ensures))
 
 returns-3 : tie.Need-returns-3
-unfolding runLength tried
 returns-3 c =
-    let e : accepted (c .before .before .args .self) ≡ false = sym (c .before .accepted .ensures) ∙ c .if1 .left in
-    rw (runLength, e)
+    let there = c .before in
+    let a = there .before .before .before .args in
+    rw (there .settings .given .1) at (run-length-after (a .self) (a .level) (a .side) _ (there .before .before .tested .ensures))
 
 pub run-length-spec : {M : Type 1} → statement M
-run-length-spec = tie.close (tie.spec accepted-requires finite-requires listen-requires returns returns-2 returns-3)
+run-length-spec = tie.close (tie.spec tested-requires enum-told finite-requires listen-requires returns enum-known-settings returns-2 returns-3)

@@ -9,7 +9,7 @@ use Rattle.refusals.specs.Tried.{countOf}
 use Rattle.charts.specs.Answers.{admittedAs}
 use Rattle.charts.proofs.Answers.{within-both}
 use Rattle.charts.proofs.Loops.{Marking, none-marked, marked-length, all-marked, one-more, signalled-leaves}
-use Rattle.cusum.specs.Chart.{accepted, shownOf, startState, nextState, signalOf, signalling}
+use Rattle.cusum.specs.Chart.{testsOf, shownOf, startState, nextState, signalOf, signalling}
 use Rattle.cusum.proofs.Cusum.signal_points.Statement.{statement}
 use Rattle.cusum.proofs.Cusum.signal_points.Tie as tie
 
@@ -32,7 +32,7 @@ loop-holds : tie.Need-loop-holds Inv-loop μ-loop
 loop-holds c = rw (c .start .ensures) (none-marked shownOf startState nextState signalOf _ _ _ _)
 
 -- how many readings are looked at, and that both slices are at least that long
-counted : (c : tie.At-loop Inv-loop μ-loop) → let a = c .before .before .before .before .before .before .args in c .before .before .count .result ≡ countOf (admittedAs (accepted (a .self)) (length (now (a .«data»))) (length (now (a .points))))
+counted : (c : tie.At-loop Inv-loop μ-loop) → let a = c .before .before .before .before .before .before .args in c .before .before .count .result ≡ countOf (admittedAs (testsOf (a .self)) (length (now (a .«data»))) (length (now (a .points))))
 counted c = c .before .before .count .ensures ∙ ap countOf (c .before .before .before .judge .ensures)
 
 fits : (c : tie.At-loop Inv-loop μ-loop) → let a = c .before .before .before .before .before .before .args in (c .before .before .count .result ≤ length (now (a .«data»))) × (c .before .before .count .result ≤ length (now (a .points)))
@@ -66,7 +66,7 @@ returns c =
     let at = c .before .before in
     let a = at .before .before .before .before .before .before .args in
     rw (c .marked .ensures, at .before .before .before .judge .ensures)
-    (signalled-leaves (accepted (a .self)) (length (now (a .«data»))) (signalling (a .self) (now (a .«data»))) (now (a .points)) _ _ refl
+    (signalled-leaves (testsOf (a .self)) (length (now (a .«data»))) (signalling (a .self) (now (a .«data»))) (now (a .points)) _ _ refl
     (rw (counted at) at (all-marked shownOf startState nextState signalOf _ _ _ _ _ _ _ _ (at .loop .inv) (fits at .1) (c .before .loop-test .left))))
 
 pub signal-points-spec : {M : Type 1} → statement M

@@ -11,7 +11,7 @@ use Rattle.refusals.specs.Tried.{countOf}
 use Rattle.charts.specs.Answers.{admittedAs}
 use Rattle.charts.proofs.Answers.{within-both, few-records}
 use Rattle.charts.proofs.Loops.{Marking, none-marked, marked-length, all-marked, one-more, signalled-leaves}
-use Rattle.ewma.specs.Chart.{accepted, fresh, itself, nextRecord, signalOf, signalling}
+use Rattle.ewma.specs.Chart.{testsOf, fresh, itself, nextRecord, signalOf, signalling}
 use Rattle.ewma.specs.Settled.{settledOf}
 use Rattle.ewma.proofs.AtRest.{following-settles}
 use Rattle.ewma.proofs.Ewma.signal_points.Statement.{statement}
@@ -36,7 +36,7 @@ loop-holds : tie.Need-loop-holds Inv-loop μ-loop
 loop-holds c = rw (c .start .ensures) (none-marked itself fresh nextRecord signalOf _ _ _ _, refl)
 
 -- how many readings are looked at, that both slices are at least that long, and that they are few
-counted : (c : tie.At-loop Inv-loop μ-loop) → let a = c .before .before .before .before .before .before .args in c .before .before .count .result ≡ countOf (admittedAs (accepted (a .self)) (length (now (a .«data»))) (length (now (a .points))))
+counted : (c : tie.At-loop Inv-loop μ-loop) → let a = c .before .before .before .before .before .before .args in c .before .before .count .result ≡ countOf (admittedAs (testsOf (a .self)) (length (now (a .«data»))) (length (now (a .points))))
 counted c = c .before .before .count .ensures ∙ ap countOf (c .before .before .before .judge .ensures)
 
 fits : (c : tie.At-loop Inv-loop μ-loop) → let a = c .before .before .before .before .before .before .args in let n = c .before .before .count .result in (n ≤ length (now (a .«data»))) × (n ≤ length (now (a .points))) × (n ≤ 4096)
@@ -80,7 +80,7 @@ returns c =
     let at = c .before .before in
     let a = at .before .before .before .before .before .before .args in
     rw (c .marked .ensures, at .before .before .before .judge .ensures)
-    (signalled-leaves (accepted (a .self)) (length (now (a .«data»))) (signalling (a .self) (now (a .«data»))) (now (a .points)) _ _ refl
+    (signalled-leaves (testsOf (a .self)) (length (now (a .«data»))) (signalling (a .self) (now (a .«data»))) (now (a .points)) _ _ refl
     (rw (counted at) at (all-marked itself fresh nextRecord signalOf _ _ _ _ _ _ _ _ (at .loop .inv .0) (fits at .1) (c .before .loop-test .left))))
 
 pub signal-points-spec : {M : Type 1} → statement M

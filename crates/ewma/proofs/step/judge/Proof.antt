@@ -1,12 +1,14 @@
 -- `ewma::step::judge` meets its contract. Assumes nothing.
-use mathlib.Core.Bool.{Bool}
 use mathlib.Core.Path.{ap, _∙_}
-use Rattle.charts.specs.Answers.{admittedAs}
+use Rattle.charts.specs.declared.Settings.{Settings}
+use Rattle.charts.specs.Answers.{admittedAfter}
+use Rattle.charts.proofs.SettingLaws.{admitted-tested}
+use Rattle.ewma.specs.Chart.{testsOf}
 use Rattle.ewma.proofs.step.judge.Statement.{statement}
 use Rattle.ewma.proofs.step.judge.Tie as tie
 
-accepted-requires : tie.Need-accepted-requires
-accepted-requires c κs = tt
+tested-requires : tie.Need-tested-requires
+tested-requires c κs = tt
 
 admitted-requires : tie.Need-admitted-requires
 admitted-requires c κs = tt
@@ -14,7 +16,7 @@ admitted-requires c κs = tt
 returns : tie.Need-returns
 returns c =
     let a = c .before .before .args in
-    c .admitted .ensures ∙ ap (λ (b : Bool). admittedAs b (a .readings) (a .room)) (c .before .accepted .ensures)
+    c .admitted .ensures ∙ ap (λ (s : Settings). admittedAfter s (a .readings) (a .room)) (c .before .tested .ensures) ∙ admitted-tested (testsOf (a .chart)) (a .readings) (a .room)
 
 pub judge-spec : {M : Type 1} → statement M
-judge-spec = tie.close (tie.spec accepted-requires admitted-requires returns)
+judge-spec = tie.close (tie.spec tested-requires admitted-requires returns)
