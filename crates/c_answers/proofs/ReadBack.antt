@@ -1,12 +1,12 @@
--- The number that is told says what was answered: 0 a result and no refusal, 8 the first gap's channel and index, 9 too few slots. Assumes nothing.
+-- The number that is told says what was answered: 0 a result and no refusal, any other the refusal of that number, 8 with the first gap's channel and index, 9 too few slots. Assumes nothing.
 use mathlib.Core.Path.{_≡_, refl, sym, ap, ap₂, _∙_}
-use Prim.Native.Nat.{ℕ}
+use Prim.Native.Nat.{ℕ, _<_}
 use native.Mathlib.Omega.{arith}
 use mathlib.Core.Bool.{Bool, true, false}
 use mathlib.Core.List.{List, [], _∷_}
 use Rattle.refusals.specs.Stated.{stated}
 use Rattle.refusals.specs.Tried.{tried}
-use Rattle.refusals.specs.Said.{Said, refusing, said}
+use Rattle.refusals.specs.Said.{Said, answered, refusing, said}
 use Rattle.refusals.proofs.Apart.{eight-is-gap, nine-is-pool}
 use Rattle.refusals.proofs.ValueLaws.{number-bounds}
 use Rattle.refusals.specs.declared.Refusal.{Refusal}
@@ -39,6 +39,17 @@ pub count-told : (a : Answer) (count : ℕ) → countedAs 0 count ≡ countedOf 
 unfolding toldOf
 count-told (Answer.Count k) count e = ap Answer.Count (sym (ap (λ (t : Counted). t .count) e))
 count-told (Answer.Refused r) count e = absurd (refusal-counted r count e)
+
+-- ---- any other: the refusal with that number, of those that were tried
+pub number-told : (ts : List (Bool × Refusal)) (values : List ℕ) (number count : ℕ) → 0 < number → countedAs number count ≡ countedOf (tried refusing ts (answered values))
+    → (r : Refusal) × (tried refusing ts (answered values) ≡ refusing r) × (stated r .number ≡ number)
+unfolding tried toldOf
+number-told [] values number count h e = absurd (none number h (ap (λ (t : Counted). t .number) e))
+  where
+    none : (number : ℕ) → 0 < number → number ≡ 0 → ⊥
+    none number h e = omega (arith, h, e)
+number-told ((true, r) ∷ ts) values number count h e = (r, refl, sym (ap (λ (t : Counted). t .number) e))
+number-told ((false, r) ∷ ts) values number count h e = number-told ts values number count h e
 
 -- ---- 8
 pub gap-told : (r : Refusal) (k i : ℕ) → toldAs 8 0 k i ≡ toldOf (refusing r) → r ≡ Refusal.NonFinite k i

@@ -2,3 +2,4 @@ pub mod Lengths
 pub mod CusumLaws
 pub mod EwmaLaws
 pub mod CusumPromise
+pub mod SettingPromise

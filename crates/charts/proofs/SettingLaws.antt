@@ -54,9 +54,9 @@ low ((true, q) ∷ us) values r h e = rw (← refused-apart q r e) (h .0)
 low ((false, q) ∷ us) values r h e = low us values r (h .1) e
 
 module _ (us : List (Bool × Refusal)) (h : RefusesLow us) (values : List ℕ) (r : Refusal) where
-  pub names : (s : InRange) → tried refusing (settingTests s ++ us) (answered values) ≡ refusing r → Named s r
+  pub refusal-names : (s : InRange) → tried refusing (settingTests s ++ us) (answered values) ≡ refusing r → Named s r
   unfolding tried
-  names s e = go (s .target) (s .sigma) (s .weight) (s .bound) refl refl refl refl e
+  refusal-names s e = go (s .target) (s .sigma) (s .weight) (s .bound) refl refl refl refl e
     where
       go : (a b c d : Bool) → s .target ≡ a → s .sigma ≡ b → s .weight ≡ c → s .bound ≡ d
           → cond (not a) (refusing Refusal.Target) (cond (not b) (refusing Refusal.Sigma) (cond (not c) (refusing Refusal.Weight) (cond (not d) (refusing Refusal.Bound) (tried refusing us (answered values))))) ≡ refusing r → Named s r
@@ -67,7 +67,7 @@ module _ (us : List (Bool × Refusal)) (h : RefusesLow us) (values : List ℕ) (
       go true true true true t v w x e = none-wrong (low us values r h e) t v w x
 
 answer-names : (s : InRange) (n room count : ℕ) (r : Refusal) → Answer.Refused r ≡ chartAnswer (settingTests s) n room count → Named s r
-answer-names s n room count r e = names (sizeTests n room) small (count ∷ []) r s (sym (answer-said (settingTests s) n room count) ∙ sym (ap said e))
+answer-names s n room count r e = refusal-names (sizeTests n room) small (count ∷ []) r s (sym (answer-said (settingTests s) n room count) ∙ sym (ap said e))
   where
     small : RefusesLow (sizeTests n room)
     small = (omega arith, (omega arith, tt))

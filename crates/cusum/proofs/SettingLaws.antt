@@ -14,7 +14,7 @@ use Rattle.refusals.specs.declared.Refusal.the-variants as Refusal
 use Rattle.refusals.specs.declared.Answer.{Answer}
 use Rattle.refusals.specs.declared.Answer.the-variants as Answer
 use Rattle.charts.specs.Settings.{Named}
-use Rattle.charts.proofs.SettingLaws.{settings-pass, names, analyzed-refused, signalled-refused}
+use Rattle.charts.proofs.SettingLaws.{settings-pass, refusal-names, analyzed-refused, signalled-refused}
 use Rattle.cusum.specs.declared.Cusum.{Cusum}
 use Rattle.cusum.specs.declared.CusumResult.{CusumResult}
 use Rattle.cusum.specs.declared.Side.{Side}
@@ -40,4 +40,4 @@ signal-points-refused c xs entry exit r e = signalled-refused (inRange c) (lengt
 
 pub run-length-refused : (c : Cusum) (v : Float) (side : Side) (r : Refusal) → heardAs (Heard.Refused r) ≡ runLength c v side → Named (inRange c) r
 unfolding runLength testsOf
-run-length-refused c v side r e = names ((not (finite v), Refusal.NonFinite 0 0) ∷ []) (omega arith, tt) (heard c v side) r (inRange c) (sym e)
+run-length-refused c v side r e = refusal-names ((not (finite v), Refusal.NonFinite 0 0) ∷ []) (omega arith, tt) (heard c v side) r (inRange c) (sym e)

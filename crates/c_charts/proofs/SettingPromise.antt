@@ -1,0 +1,75 @@
+-- What programs in other languages are told of a chart's settings: a number from 15 to 18 names the first that is out of range, and any other but 0 says that none is. Assumes nothing.
+use mathlib.Core.Path.{_≡_, ap, _∙_}
+use Prim.Native.Nat.{ℕ, _<_}
+use mathlib.Core.Bool.{Bool, true, false, not, cond}
+use mathlib.Core.List.{List, [], _∷_, _++_}
+use native.Mathlib.Omega.{arith}
+use lib.Dec.{ltb}
+use lib.ListN.{length}
+use lib.Ieee.{Float}
+use Rattle.floats.specs.Finite.{finite}
+use Rattle.refusals.specs.Stated.{stated}
+use Rattle.refusals.specs.Tried.{tried}
+use Rattle.refusals.specs.Said.{answered, refusing, said}
+use Rattle.refusals.specs.declared.Refusal.{Refusal}
+use Rattle.refusals.specs.declared.Refusal.the-variants as Refusal
+use Rattle.charts.specs.declared.InRange.{InRange}
+use Rattle.charts.specs.Settings.{settingTests, Named}
+use Rattle.charts.specs.Answers.{sizeTests, chartAnswer}
+use Rattle.charts.proofs.Answers.{answer-said}
+use Rattle.charts.proofs.SettingLaws.{RefusesLow, refusal-names}
+use Rattle.cusum.specs.Chart as Cusum
+use Rattle.cusum.specs.RunLength.{heard, runLength}
+use Rattle.cusum.specs.declared.Cusum.{Cusum}
+use Rattle.ewma.specs.Chart as Ewma
+use Rattle.ewma.specs.declared.Ewma.{Ewma}
+use Rattle.c_answers.specs.declared.Counted.{Counted}
+use Rattle.c_answers.specs.Told.{toldOf, countedAs, countedOf, sideOf, runLengthOf, toldLeft}
+use Rattle.c_answers.proofs.ReadBack.{number-told}
+use Rattle.c_charts.specs.CusumColumns as CusumColumns
+use Rattle.c_charts.specs.EwmaColumns as EwmaColumns
+
+-- the refusal with this number, and what it says of the settings
+abbrev pub NamedBy : InRange → ℕ → Type 0
+NamedBy s number = (r : Refusal) × (stated r .number ≡ number) × Named s r
+
+-- after the settings the tests `us` are tried, whose refusals have lower numbers
+told-names : (s : InRange) (us : List (Bool × Refusal)) → RefusesLow us → (values : List ℕ) (number k : ℕ) → 0 < number → countedAs number k ≡ countedOf (tried refusing (settingTests s ++ us) (answered values)) → NamedBy s number
+told-names s us low values number k h e = let told = number-told (settingTests s ++ us) values number k h e in (told .0, told .2, refusal-names us low values (told .0) s (told .1))
+
+chart-names : (s : InRange) (n room count number k : ℕ) → 0 < number → countedAs number k ≡ countedOf (said (chartAnswer (settingTests s) n room count)) → NamedBy s number
+chart-names s n room count number k h e = told-names s (sizeTests n room) (omega arith, (omega arith, tt)) (count ∷ []) number k h (e ∙ ap countedOf (answer-said (settingTests s) n room count))
+
+-- ---- of the arrays
+pub cusum-arrays-name : (c : Cusum) (xs upper lower upper′ lower′ : List Float) (signal index signal′ index′ : List ℕ) (number count : ℕ) → 0 < number
+    → _≡_ {A = Counted × List Float × List Float × List ℕ × List ℕ} (countedAs number count, upper′, lower′, signal′, index′) (CusumColumns.cusumArrays c xs upper lower signal index) → NamedBy (Cusum.inRange c) number
+unfolding Cusum.testsOf
+cusum-arrays-name c xs upper lower upper′ lower′ signal index signal′ index′ number count h e =
+    chart-names (Cusum.inRange c) (length xs) (CusumColumns.roomOf upper lower signal index) (length xs) number count h (ap (λ (o : Counted × List Float × List Float × List ℕ × List ℕ). o .0) e)
+
+pub ewma-arrays-name : (c : Ewma) (xs ewma ucl lcl ewma′ ucl′ lcl′ : List Float) (signal index signal′ index′ : List ℕ) (number count : ℕ) → 0 < number
+    → _≡_ {A = Counted × List Float × List Float × List Float × List ℕ × List ℕ} (countedAs number count, ewma′, ucl′, lcl′, signal′, index′) (EwmaColumns.ewmaArrays c xs ewma ucl lcl signal index) → NamedBy (Ewma.inRange c) number
+unfolding Ewma.testsOf
+ewma-arrays-name c xs ewma ucl lcl ewma′ ucl′ lcl′ signal index signal′ index′ number count h e =
+    chart-names (Ewma.inRange c) (length xs) (EwmaColumns.roomOf ewma ucl lcl signal index) (length xs) number count h (ap (λ (o : Counted × List Float × List Float × List Float × List ℕ × List ℕ). o .0) e)
+
+-- ---- of the indices that signal
+pub cusum-points-name : (c : Cusum) (xs : List Float) (entry exit : List ℕ) (number count : ℕ) → 0 < number → _≡_ {A = Counted × List ℕ} (countedAs number count, exit) (toldLeft (Cusum.signalled c xs entry)) → NamedBy (Cusum.inRange c) number
+unfolding Cusum.testsOf
+cusum-points-name c xs entry exit number count h e = chart-names (Cusum.inRange c) (length xs) (length entry) (length (Cusum.signalling c xs (length xs))) number count h (ap (λ (o : Counted × List ℕ). o .0) e)
+
+pub ewma-points-name : (c : Ewma) (xs : List Float) (entry exit : List ℕ) (number count : ℕ) → 0 < number → _≡_ {A = Counted × List ℕ} (countedAs number count, exit) (toldLeft (Ewma.signalled c xs entry)) → NamedBy (Ewma.inRange c) number
+unfolding Ewma.testsOf
+ewma-points-name c xs entry exit number count h e = chart-names (Ewma.inRange c) (length xs) (length entry) (length (Ewma.signalling c xs (length xs))) number count h (ap (λ (o : Counted × List ℕ). o .0) e)
+
+-- ---- of the run length, where the number is not that of a side that there is not
+pub run-length-names : (c : Cusum) (v : Float) (side number reading : ℕ) → 0 < number → (number ≡ 10 → ⊥) → countedAs number reading ≡ countedOf (runLengthOf c v side) → NamedBy (Cusum.inRange c) number
+unfolding runLengthOf runLength tried toldOf Cusum.testsOf
+run-length-names c v side number reading h other e = go (ltb side 2) e
+  where
+    level : List (Bool × Refusal)
+    level = (not (finite v), Refusal.NonFinite 0 0) ∷ []
+
+    go : (known : Bool) → countedAs number reading ≡ countedOf (cond (not known) (refusing Refusal.Form) (tried refusing (settingTests (Cusum.inRange c) ++ level) (answered (heard c v (sideOf side))))) → NamedBy (Cusum.inRange c) number
+    go true e = told-names (Cusum.inRange c) level (omega arith, tt) (heard c v (sideOf side)) number reading h e
+    go false e = absurd (other (ap (λ (t : Counted). t .number) e))
