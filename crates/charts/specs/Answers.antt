@@ -32,7 +32,7 @@ admittedAs settings n room = chartAnswer settings n room n
 abbrev pub admittedAfter : Settings → ℕ → ℕ → Answer
 admittedAfter settings n room = afterSettings Answer.Refused settings (counted (sizeTests n room) n)
 
--- the same answer with the count `count`
+-- an answer with `count` in place of its count; a refusal stays
 abbrev pub recounted : Answer → ℕ → Answer
 recounted (Answer.Count n) count = Answer.Count count
 recounted (Answer.Refused r) count = Answer.Refused r
