@@ -25,6 +25,19 @@ fn head(unit: &str) {
     println!("| | ours, {unit} | the Rust's, {unit} | ratio |\n|---|---|---|---|");
 }
 
+/// Charts, and noise variances, of many readings and of few.
+fn print_charts(best: Best, random: &mut Random) {
+    println!("\nCharts, and the noise variance of BIC, {N} readings:\n");
+    head("µs");
+    charts::rows(best, random, N).iter().for_each(Row::print);
+    println!("\nThe same of {SHORT} readings, a thousand calls:\n");
+    head("µs");
+    charts::rows(best, random, SHORT)
+        .iter()
+        .map(|row| Row::new(&row.name, row.ours * 1e3, row.theirs * 1e3))
+        .for_each(|row| row.print());
+}
+
 fn main() {
     let words: Vec<String> = std::env::args().skip(1).collect();
     let rounds = words
@@ -35,6 +48,9 @@ fn main() {
         enough: Duration::from_secs(2),
     };
     let mut random = Random::new();
+    if words.get(1).is_some_and(|word| word == "charts") {
+        return print_charts(best, &mut random);
+    }
     println!("Searches by BIC, {N} readings a channel, minimum length 2:\n");
     head("µs");
     let mut rows: Vec<(searches::Sort, Row)> = Vec::new();
@@ -45,17 +61,7 @@ fn main() {
         rows.push((sort, row));
     }
     searches::package(best, &mut random, N).print();
-    println!("\nCharts, and the noise variance of BIC, {N} readings:\n");
-    head("µs");
-    charts::rows(best, &mut random, N)
-        .iter()
-        .for_each(Row::print);
-    println!("\nThe same of {SHORT} readings, a thousand calls:\n");
-    head("µs");
-    charts::rows(best, &mut random, SHORT)
-        .iter()
-        .map(|row| Row::new(&row.name, row.ours * 1e3, row.theirs * 1e3))
-        .for_each(|row| row.print());
+    print_charts(best, &mut random);
     println!("\nElementary functions, a thousand calls:\n");
     head("µs");
     elementary::rows(best, &mut random)
