@@ -1,5 +1,5 @@
 -- The charts' answers: what is said of one in the rules' numbers, and that as many records as one stands for fit both slices. Assumes nothing.
-use mathlib.Core.Path.{_≡_, refl, _∙_, ap}
+use mathlib.Core.Path.{_≡_, _∙_, ap}
 use Prim.Native.Nat.{ℕ, _≤_}
 use mathlib.Core.Bool.{Bool, true}
 use mathlib.Core.List.{List, [], _∷_}
@@ -8,9 +8,8 @@ use borrow.Author.Tests.{ltb-false}
 use Rattle.refusals.specs.Limits.{maxReadings}
 use Rattle.refusals.specs.Tried.{tried, passed, countOf}
 use Rattle.refusals.specs.Said.{answered, refusing, said}
-use Rattle.refusals.proofs.TriedLaws.{tried-map, tried-passed, passed-first, passed-rest, passed-left, passed-right, no-count, Verdict, passes, refuses, verdict}
+use Rattle.refusals.proofs.TriedLaws.{tried-map, tried-passed, passed-first, passed-rest, passed-left, passed-right, no-count, passes, refuses, verdict}
 use Rattle.refusals.specs.declared.Refusal.{Refusal}
-use Rattle.refusals.specs.declared.Refusal.the-variants as Refusal
 use Rattle.refusals.specs.declared.Answer.{Answer}
 use Rattle.refusals.specs.declared.Answer.the-variants as Answer
 use Rattle.charts.specs.Answers.{sizeTests, chartTests, chartAnswer, admittedAs}

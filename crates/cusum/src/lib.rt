@@ -118,7 +118,8 @@ impl Cusum {
     }
 
     // The first reading, 1 to 4,096, at which a fresh chart that is fed only `level` has the sum of
-    // `side` above h. Cost: one step for each reading up to that one.
+    // `side` above h. Settings that are out of range are refused first, and then a `level` that is not
+    // finite. Cost: one step for each reading up to that one.
     pub fn run_length(self, level: f64, side: Side) -> Heard
         ensures { λ r. ⌜ heardAs r ≡ runLength self level side ⌝ }
     {
