@@ -1,4 +1,4 @@
--- What programs in other languages are told of a chart's settings: a number from 15 to 18 names the first that is out of range, and any other but 0 says that none is. Assumes nothing.
+-- What programs in other languages are told of a chart's settings: a number from 15 to 18 names the first that is out of range, and any other but 0, and but the 10 of a run length, says that none is. Assumes nothing.
 use mathlib.Core.Path.{_≡_, ap, _∙_}
 use Prim.Native.Nat.{ℕ, _<_}
 use mathlib.Core.Bool.{Bool, true, false, not, cond}

@@ -78,7 +78,7 @@ pub fn note(signal: bool, index: usize, count: usize, points: &mut [usize]) -> u
 pub fn tested(settings: InRange) -> Settings
     ensures { λ r. ⌜ r ≡ testedAs (settingTests settings) ⌝ }
 {
-    // All at once: a call with settings that are in range has one branch for them.
+    // The usual case first; docs/DECISIONS.md says what was measured of it.
     if settings.target & settings.sigma & settings.weight & settings.bound {
         return Settings::Accepted;
     }
