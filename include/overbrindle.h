@@ -38,7 +38,7 @@
  *      7 Room       a slice is shorter than said below
  *      8 NonFinite  a reading or level is NaN or infinite (strict search and run length only)
  *      9 Pool       L2 on one or two channels needs more slots than the pool has
- *     10 Form       a number that stands for no cost, penalty or side
+ *     10 Form       a number that stands for no cost, penalty or sum
  *     12 Piece      a piece whose start is not below its end, or whose end is past the channel
  *     15 Target     a chart's target is not finite
  *     16 Sigma      a chart's sigma is not finite or not above 0
@@ -99,7 +99,9 @@ typedef char overbrindle_needs_a_size_t_of_64_bits[sizeof(size_t) == 8 ? 1 : -1]
 
 enum { OVERBRINDLE_L2 = 0, OVERBRINDLE_NORMAL = 1 };     /* cost */
 enum { OVERBRINDLE_BIC = 0, OVERBRINDLE_CUSTOM = 1 };    /* penalty_kind; BIC does not look at penalty */
-enum { OVERBRINDLE_UPPER = 0, OVERBRINDLE_LOWER = 1 };   /* side */
+enum { OVERBRINDLE_UPPER = 0, OVERBRINDLE_LOWER = 1 };   /* sum */
+enum { OVERBRINDLE_NONE = 0, OVERBRINDLE_ABOVE = 1,      /* side of a record */
+       OVERBRINDLE_BELOW = 2, OVERBRINDLE_BOTH = 3 };
 enum { OVERBRINDLE_SLOT = 200 };                         /* floats of the pool for one candidate */
 
 /* The cuts of k channels of n readings: the indices at which a new piece begins, lowest first, in the
@@ -132,21 +134,22 @@ uint32_t overbrindle_detect_multi_strict(uint32_t cost, uint32_t penalty_kind, d
 uint32_t overbrindle_piece_summary(const double *channel, size_t channel_len,
     size_t start, size_t end, size_t *length, double *mean, double *spread);
 
-/* The records of a chart over n readings, one array a field: signal is 1 or 0, index counts from 0.
- * Each array needs n elements; those past n are left. *count is n.
- * A reading that is not finite is a gap: it carries the sums or the statistic on, without a signal.
- * CUSUM signals where a sum is above h, EWMA where the statistic is outside the limits lcl and ucl.
+/* The records of a chart over n readings, one array a field; index counts from 0. Each array needs n
+ * elements; those past n are left. *count is n.
+ * A side that is not 0 is a signal. CUSUM: above where s_upper is above h, below where s_lower is, both
+ * where both are. EWMA: above where the statistic is above ucl, below where it is below lcl, never both.
+ * A reading that is not finite is a gap: it carries the sums or the statistic on, and its side is none.
  * Settings, all finite: sigma, h and l_factor above 0, k not below 0, lambda above 0 and at most 1.
  * Usual ones are k 0.5, h 5, lambda 0.2 and l_factor 3. */
 uint32_t overbrindle_cusum_analyze(double target, double sigma, double k, double h,
     const double *data, size_t data_len, double *s_upper, size_t s_upper_len,
-    double *s_lower, size_t s_lower_len, uint8_t *signal, size_t signal_len,
+    double *s_lower, size_t s_lower_len, uint8_t *side, size_t side_len,
     size_t *index, size_t index_len, size_t *count);
 
 uint32_t overbrindle_ewma_analyze(double target, double sigma, double lambda, double l_factor,
     const double *data, size_t data_len, double *ewma, size_t ewma_len,
     double *ucl, size_t ucl_len, double *lcl, size_t lcl_len,
-    uint8_t *signal, size_t signal_len, size_t *index, size_t index_len, size_t *count);
+    uint8_t *side, size_t side_len, size_t *index, size_t index_len, size_t *count);
 
 /* The indices of the readings that signal, in the front of points, which needs n elements; the rest is
  * left. *count is how many there are. */
@@ -156,10 +159,11 @@ uint32_t overbrindle_cusum_signal_points(double target, double sigma, double k, 
 uint32_t overbrindle_ewma_signal_points(double target, double sigma, double lambda, double l_factor,
     const double *data, size_t data_len, size_t *points, size_t points_len, size_t *count);
 
-/* The reading, 1 to 4,096, at which a fresh CUSUM chart that is fed level alone first has the sum of
- * a side above h; 0 where none does. */
+/* The reading, 1 to 4,096, at which a fresh CUSUM chart that is fed level alone first has this sum above
+ * h; 0 where none does. Where it is N, the Nth of any next N finite readings at or beyond level, in any
+ * series, has the side above or both for the upper sum, and below or both for the lower. */
 uint32_t overbrindle_cusum_run_length(double target, double sigma, double k, double h,
-    double level, uint32_t side, size_t *reading);
+    double level, uint32_t sum, size_t *reading);
 
 /* The noise variance of a channel of n readings, as the search with a BIC penalty takes it; 0 for fewer
  * than two. It is worked out in the n - 1 elements of area from area[place], which are zero afterwards.

@@ -434,11 +434,11 @@ impl fmt::Display for Case {
                     "run_length by {by}: settings {}",
                     Values(&asked.settings)
                 )?;
-                write!(f, ", level {}, side {}", Values(&[asked.level]), asked.side)
+                write!(f, ", level {}, sum {}", Values(&[asked.level]), asked.sum)
             }
             Case::Heard(heard) => {
                 write!(f, "promise 3: settings {}", Values(&heard.settings))?;
-                write!(f, ", level {}, side {}", Values(&[heard.level]), heard.side)?;
+                write!(f, ", level {}, sum {}", Values(&[heard.level]), heard.sum)?;
                 write!(f, ", readings {}", Values(&heard.readings))
             }
             Case::Piece(piece) => {

@@ -37,14 +37,14 @@ pub struct RunLength {
     pub by_new: bool,
     pub settings: [f64; 4],
     pub level: f64,
-    pub side: u32,
+    pub sum: u32,
 }
 
 /// The lent areas of a chart's fields and of its points.
 #[derive(Default)]
 pub struct Areas {
     values: [Area; 3],
-    signal: Bytes,
+    side: Bytes,
     index: Area,
     points: Area,
 }
@@ -84,7 +84,7 @@ impl Chart {
         }
     }
 
-    /// The size of the area of this number: the values, then the signals, the indices and the points.
+    /// The size of the area of this number: the values, then the sides, the indices and the points.
     fn size(&self, area: usize) -> usize {
         self.readings.len().saturating_add_signed(self.spare[area])
     }
@@ -124,11 +124,11 @@ impl Chart {
         let settings = self.made_with();
         if self.kind == Kind::Cusum {
             let answer = charted::cusum_answer(&settings, &self.readings);
-            return Ok((answer.expect("a chart"), None));
+            return Ok((sided(answer)?, None));
         }
-        let mut unmodified = charted::ewma_answer(&settings, &self.readings).expect("a chart");
+        let mut unmodified = sided(charted::ewma_answer(&settings, &self.readings))?;
         damage_unmodified(fault, &mut unmodified);
-        let ruled = ruled_answer(&settings, &self.readings).expect("a chart");
+        let ruled = sided(ruled_answer(&settings, &self.readings))?;
         let named = differ_by_powers(&unmodified, &ruled)?.then_some(POWERS);
         Ok((ruled, named))
     }
@@ -173,7 +173,7 @@ impl Chart {
         let data = &self.readings[..];
         let points = areas.points.indices();
         let [first, second, third] = &mut areas.values;
-        let (signal, index) = (areas.signal.bytes(), areas.index.indices());
+        let (side, index) = (areas.side.bytes(), areas.index.indices());
         match (self.kind, self.points) {
             (Kind::Cusum, true) => lent::cusum_signal_points(cusum(self.settings), data, points),
             (Kind::Ewma, true) => lent::ewma_signal_points(ewma(self.settings), data, points),
@@ -181,7 +181,7 @@ impl Chart {
                 let areas = lent::CusumAreas {
                     s_upper: first.floats(),
                     s_lower: second.floats(),
-                    signal,
+                    side,
                     index,
                 };
                 lent::cusum_analyze(cusum(self.settings), data, areas)
@@ -191,7 +191,7 @@ impl Chart {
                     ewma: first.floats(),
                     ucl: second.floats(),
                     lcl: third.floats(),
-                    signal,
+                    side,
                     index,
                 };
                 lent::ewma_analyze(ewma(self.settings), data, areas)
@@ -228,8 +228,8 @@ impl Chart {
             let front: Vec<Word> = values.map(|value| value.to_bits()).collect();
             area.compare(&format!("value {at}"), &front, Rest::AsLent, same_float)?;
         }
-        let signals: Vec<u8> = records.iter().map(|record| record.signal.into()).collect();
-        areas.signal.compare("signals", &signals)?;
+        let sides: Vec<u8> = records.iter().map(|record| record.side).collect();
+        areas.side.compare("sides", &sides)?;
         let indices: Vec<Word> = records.iter().map(|record| record.index as Word).collect();
         let points: Vec<Word> = points.iter().map(|&point| point as Word).collect();
         areas
@@ -287,6 +287,18 @@ fn told(met: &[u32]) -> String {
     }
 }
 
+/// What a chart of the Rust made of a series. Its yes or no has to be that the side is not none: the Rust does
+/// not say the side, which comes from its sums or limits.
+fn sided(answer: Option<Answer>) -> Result<Answer, String> {
+    let answer = answer.expect("a chart");
+    match answer.contradiction() {
+        None => Ok(answer),
+        Some(index) => Err(format!(
+            "the Rust's signal at {index} is not what its values say"
+        )),
+    }
+}
+
 /// What a copy of `ewma.rs` with rule 4.2's powers makes of a series.
 fn ruled_answer(settings: &Settings, readings: &[f64]) -> Option<Answer> {
     let [target, sigma, lambda, l_factor] = settings.values;
@@ -294,19 +306,21 @@ fn ruled_answer(settings: &Settings, readings: &[f64]) -> Option<Answer> {
         true => ewma_ruled::Ewma::new(target, sigma)?,
         false => ewma_ruled::Ewma::with_params(target, sigma, lambda, l_factor)?,
     };
-    let record = |r: ewma_ruled::EwmaResult| Record {
+    let record = |(r, &reading): (ewma_ruled::EwmaResult, &f64)| Record {
         values: vec![r.ewma, r.ucl, r.lcl],
+        side: charted::ewma_side(reading, [r.ewma, r.ucl, r.lcl]),
         signal: r.signal,
         index: r.index,
     };
+    let records = chart.analyze(readings).into_iter().zip(readings);
     Some(Answer {
-        records: chart.analyze(readings).into_iter().map(record).collect(),
+        records: records.map(record).collect(),
         points: chart.signal_points(readings),
     })
 }
 
 /// Whether the platform's power gives this record other limits than rule 4.2's. It may move the limits
-/// and, where it does, the signal; nothing where more than that differs.
+/// and, where it does, the side; nothing where more than that differs.
 fn limits_moved(by_rule: &Record, by_platform: &Record) -> Option<bool> {
     let bits = |record: &Record| -> Vec<u64> {
         record.values.iter().map(|&value| pattern(value)).collect()
@@ -314,12 +328,12 @@ fn limits_moved(by_rule: &Record, by_platform: &Record) -> Option<bool> {
     let (ruled, platform) = (bits(by_rule), bits(by_platform));
     let moved = ruled[1..] != platform[1..];
     let same_statistic = ruled[0] == platform[0] && by_rule.index == by_platform.index;
-    let same_signal = moved || by_rule.signal == by_platform.signal;
-    (same_statistic && same_signal).then_some(moved)
+    let same_side = moved || by_rule.side == by_platform.side;
+    (same_statistic && same_side).then_some(moved)
 }
 
 /// Whether the unmodified Rust differs from the copy with rule 4.2's powers, which may only be in limits
-/// and by them in signals: there are as many records, and the same points where no limit differs.
+/// and by them in sides: there are as many records, and the same points where no limit differs.
 fn differ_by_powers(unmodified: &Answer, ruled: &Answer) -> Result<bool, String> {
     let pairs = ruled.records.iter().zip(&unmodified.records);
     let moved: Option<Vec<bool>> = pairs.map(|(r, u)| limits_moved(r, u)).collect();
@@ -336,7 +350,7 @@ impl Areas {
         for (at, area) in self.values.iter_mut().enumerate() {
             area.lend(chart.size(at));
         }
-        self.signal.lend(chart.size(3));
+        self.side.lend(chart.size(3));
         self.index.lend(chart.size(4));
         self.points.lend(chart.size(5));
     }
@@ -353,7 +367,7 @@ impl RunLength {
 
     /// The refusals whose conditions the call meets, each by itself, in the order of rule 2.4.
     fn met(&self, fault: Fault) -> Result<Vec<u32>, String> {
-        let mut met: Vec<u32> = met_by([(self.side > 1, FORM)]).collect();
+        let mut met: Vec<u32> = met_by([(self.sum > 1, FORM)]).collect();
         met.extend(met_by_settings(Kind::Cusum, &self.made_with(), fault)?);
         met.extend(met_by([(!self.level.is_finite(), NON_FINITE)]));
         Ok(met)
@@ -364,18 +378,18 @@ impl RunLength {
         let due = match met.first() {
             Some(&number) => (number, 0),
             None => {
-                let upper = self.side == 0;
+                let upper = self.sum == 0;
                 let (_, heard) = charted::run_length_answer(&self.made_with(), self.level, upper);
                 (0, heard)
             }
         };
-        let mut said = lent::cusum_run_length(cusum(self.settings), self.level, self.side);
+        let mut said = lent::cusum_run_length(cusum(self.settings), self.level, self.sum);
         said.1 += usize::from(fault.is("run length"));
         said.0 += u32::from(fault.is("run length number"));
         if said != due {
             return Err(format!("number and reading are {said:?} and not {due:?}"));
         }
-        if self.side < 2 {
+        if self.sum < 2 {
             wrapped::run_length(self, due)?;
         }
         let outcome = match due {
@@ -389,14 +403,14 @@ impl RunLength {
 }
 
 /// Puts the fault that is asked for into the unmodified EWMA records, as if they came by another power: only
-/// limits, and signals by them, may differ by that.
+/// limits, and sides by them, may differ by that.
 fn damage_unmodified(fault: Fault, unmodified: &mut Answer) {
     let Some(last) = unmodified.records.last_mut() else {
         return;
     };
     let flip = |value: &mut f64| *value = f64::from_bits(value.to_bits() ^ 1);
-    if fault.is("another signal by no power") {
-        last.signal = !last.signal;
+    if fault.is("another side by no power") {
+        last.side ^= 1;
     }
     if fault.is("another power and statistic") {
         flip(&mut last.values[1]);
@@ -459,16 +473,40 @@ fn damage_records(fault: Fault, chart: &Chart, count: usize, areas: &mut Areas) 
     if fault.is("record before") {
         *last.before() = 0;
     }
-    if fault.is("signal beyond") {
-        *areas.signal.beyond() ^= 1;
+    if fault.is("side beyond") {
+        *areas.side.beyond() ^= 1;
     }
     if fault.is("index beyond") {
         *areas.index.beyond() = 0;
     }
-    if fault.is("record signal") && count > 0 {
-        areas.signal.bytes()[count - 1] ^= 1;
-    }
     if fault.is("record index") && count > 0 {
         areas.index.words()[count - 1] ^= 1;
+    }
+    let sides = areas.side.bytes();
+    let written = count.min(sides.len());
+    damage_sides(fault, &mut sides[..written]);
+}
+
+fn damage_sides(fault: Fault, sides: &mut [u8]) {
+    if let Some(last) = sides.last_mut() {
+        *last ^= u8::from(fault.is("record side"));
+    }
+    if fault.is("sides exchanged") {
+        exchange_sides(sides);
+    }
+    if fault.is("both told as one") {
+        let both = sides.iter_mut().filter(|side| **side == charted::BOTH);
+        both.for_each(|side| *side = charted::ABOVE);
+    }
+}
+
+/// Above told as below, and below as above.
+pub fn exchange_sides(sides: &mut [u8]) {
+    for side in sides {
+        *side = match *side {
+            charted::ABOVE => charted::BELOW,
+            charted::BELOW => charted::ABOVE,
+            other => other,
+        };
     }
 }

@@ -338,7 +338,7 @@ fn longest_charts(random: &mut Random) -> Vec<Case> {
 fn run_lengths(random: &mut Random) -> Vec<Case> {
     let asked = charted::run_lengths(random).into_iter();
     let case = |(settings, level, upper): (ChartSettings, f64, bool)| {
-        let side = match random.below(32) {
+        let sum = match random.below(32) {
             0 => pick(random, &[2, 3, u32::MAX]),
             _ => u32::from(!upper),
         };
@@ -346,7 +346,7 @@ fn run_lengths(random: &mut Random) -> Vec<Case> {
             by_new: settings.values[2..] == usual(Kind::Cusum)[2..] && random.below(2) == 0,
             settings: settings.values,
             level,
-            side,
+            sum,
         })
     };
     asked.map(case).collect()

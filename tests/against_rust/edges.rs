@@ -194,7 +194,7 @@ fn charts_refused_twice(random: &mut Random) -> Vec<Case> {
     cases
 }
 
-/// Every set of settings that are out of range, times a level that is finite or not, times a side or none.
+/// Every set of settings that are out of range, times a level that is finite or not, times a sum or none.
 fn run_lengths_refused_twice(random: &mut Random) -> Vec<Case> {
     let mut cases = Vec::new();
     for (at, set) in (0..4).flat_map(|at| (0..16).map(move |set| (at, set))) {
@@ -202,7 +202,7 @@ fn run_lengths_refused_twice(random: &mut Random) -> Vec<Case> {
             0 => pick(random, &NOT_FINITE),
             _ => 6.0 * fraction(random) - 3.0,
         };
-        let side = match at & 2 {
+        let sum = match at & 2 {
             0 => random.below(2) as u32,
             _ => pick(random, &[2, 3, u32::MAX]),
         };
@@ -210,7 +210,7 @@ fn run_lengths_refused_twice(random: &mut Random) -> Vec<Case> {
             by_new: set < 4 && random.below(2) == 0,
             settings: wrong_settings(random, Kind::Cusum, set),
             level,
-            side,
+            sum,
         }));
     }
     cases
@@ -259,7 +259,7 @@ fn at_or_beyond(random: &mut Random, level: f64, sigma: f64, upper: bool) -> f64
 /// reading just short of the level, or some noise about the target.
 fn stretch(random: &mut Random, asked: &Heard, run_length: usize) -> Vec<f64> {
     let [target, sigma, ..] = asked.settings;
-    let upper = asked.side == 0;
+    let upper = asked.sum == 0;
     let count = match random.below(4) {
         0 => run_length - 1,
         1 | 2 => run_length,
@@ -310,7 +310,7 @@ fn heard_by(random: &mut Random, settings: Settings, lengths: (usize, usize)) ->
         let asked = Heard {
             settings: settings.values,
             level,
-            side: u32::from(!upper),
+            sum: u32::from(!upper),
             readings: Rc::new(Vec::new()),
         };
         if number == 0 && (lengths.0..=lengths.1).contains(&run_length) {
@@ -335,12 +335,12 @@ fn heard_late(random: &mut Random) -> Vec<Case> {
     let mut cases = Vec::new();
     let h = pick(random, &[700.0, 4094.0, 4095.0, 4095.5, 4096.0]);
     let exact = Settings::with([0.0, 1.0, 0.0, h]);
-    for (level, side) in [(1.0, 0), (-1.0, 1)] {
+    for (level, sum) in [(1.0, 0), (-1.0, 1)] {
         let run_length = h as usize + 1;
         let mut asked = Heard {
             settings: exact.values,
             level,
-            side,
+            sum,
             readings: Rc::new(vec![level; run_length.min(MOST_READINGS)]),
         };
         cases.push(Case::Heard(asked.clone()));

@@ -6,7 +6,7 @@
 #[derive(Clone, Copy, Default)]
 pub struct Fault(Option<&'static str>);
 
-pub const FAULTS: [&str; 51] = [
+pub const FAULTS: [&str; 54] = [
     "search number",
     "search count",
     "search place",
@@ -27,14 +27,16 @@ pub const FAULTS: [&str; 51] = [
     "chart count",
     "record's first value",
     "record bit",
-    "record signal",
+    "record side",
+    "sides exchanged",
+    "both told as one",
     "record index",
     "record behind",
     "record beyond",
     "record before",
-    "signal beyond",
+    "side beyond",
     "index beyond",
-    "another signal by no power",
+    "another side by no power",
     "another power and statistic",
     "another power and index",
     "another power and a record less",
@@ -48,6 +50,7 @@ pub const FAULTS: [&str; 51] = [
     "run length number",
     "heard early",
     "unheard",
+    "heard on the other side",
     "unheard point",
     "piece number",
     "piece length",

@@ -1,6 +1,8 @@
 //! Promise 3, of the library's answers alone: where the run length of a level is N, the Nth of any next N
-//! finite readings at or beyond the level signals, in the records and among the signal points.
+//! finite readings at or beyond the level signals on the side of the sum that hears it, above or both for the
+//! upper and below or both for the lower, and is among the signal points.
 
+use crate::charted::{ABOVE, BELOW, BOTH};
 use crate::charts;
 use crate::faults::Fault;
 use crate::Outcome;
@@ -12,15 +14,23 @@ use std::rc::Rc;
 pub struct Heard {
     pub settings: [f64; 4],
     pub level: f64,
-    pub side: u32,
+    pub sum: u32,
     pub readings: Rc<Vec<f64>>,
 }
 
 impl Heard {
     fn beyond(&self, reading: f64) -> bool {
-        match self.side {
+        match self.sum {
             0 => reading >= self.level,
             _ => reading <= self.level,
+        }
+    }
+
+    /// Whether a record of this side says that the sum is above h.
+    fn heard_on(&self, side: u8) -> bool {
+        match self.sum {
+            0 => side == ABOVE || side == BOTH,
+            _ => side == BELOW || side == BOTH,
         }
     }
 
@@ -42,7 +52,7 @@ impl Heard {
     pub fn check(&self, fault: Fault) -> Result<Outcome, String> {
         let named = None;
         let chart = charts::cusum(self.settings);
-        let (number, mut run_length) = lent::cusum_run_length(chart, self.level, self.side);
+        let (number, mut run_length) = lent::cusum_run_length(chart, self.level, self.sum);
         if number != 0 || run_length == 0 {
             let outcome = match number {
                 0 => "not heard".into(),
@@ -50,24 +60,18 @@ impl Heard {
             };
             return Ok(Outcome { outcome, named });
         }
-        let (mut signals, mut points) = (
-            signals(chart, &self.readings)?,
-            points(chart, &self.readings)?,
-        );
+        let mut sides = sides(chart, &self.readings)?;
+        let mut points = points(chart, &self.readings)?;
         if fault.is("heard early") {
             run_length -= 1;
         }
-        if fault.is("unheard") {
-            signals.fill(0);
-        }
-        if fault.is("unheard point") {
-            points.clear();
-        }
+        damage(fault, &mut sides, &mut points);
         let due = self.due(run_length);
         for index in &due {
-            if signals[*index] != 1 || points.binary_search(index).is_err() {
+            let (side, point) = (sides[*index], points.binary_search(index).is_ok());
+            if !self.heard_on(side) || !point {
                 return Err(format!(
-                    "the level is heard at reading {run_length}, and index {index} does not signal"
+                    "heard at reading {run_length}, and index {index} has side {side}, among the points: {point}"
                 ));
             }
         }
@@ -79,19 +83,32 @@ impl Heard {
     }
 }
 
-/// The signals of the library's records.
-fn signals(chart: CusumSettings, readings: &[f64]) -> Result<Vec<u8>, String> {
+/// Puts the fault that is asked for into what a chart said.
+fn damage(fault: Fault, sides: &mut [u8], points: &mut Vec<usize>) {
+    if fault.is("unheard") {
+        sides.fill(0);
+    }
+    if fault.is("heard on the other side") {
+        charts::exchange_sides(sides);
+    }
+    if fault.is("unheard point") {
+        points.clear();
+    }
+}
+
+/// The sides of the library's records.
+fn sides(chart: CusumSettings, readings: &[f64]) -> Result<Vec<u8>, String> {
     let n = readings.len();
     let (mut s_upper, mut s_lower) = (vec![0.0; n], vec![0.0; n]);
-    let (mut signal, mut index) = (vec![0; n], vec![0; n]);
+    let (mut side, mut index) = (vec![0; n], vec![0; n]);
     let areas = lent::CusumAreas {
         s_upper: &mut s_upper,
         s_lower: &mut s_lower,
-        signal: &mut signal,
+        side: &mut side,
         index: &mut index,
     };
     match lent::cusum_analyze(chart, readings, areas) {
-        (0, count) if count == n => Ok(signal),
+        (0, count) if count == n => Ok(side),
         said => Err(format!("number and count are {said:?}")),
     }
 }

@@ -3,9 +3,10 @@
 
 use crate::calls::{self, Call};
 use crate::charts::{Chart, Kind};
+use crate::rules::pattern;
 use crate::series::Settings;
-use crate::wrapped::{by_settings, cost, cusum_row, ewma_row, penalty, same, Charted, Refused};
-use overbrindle::detection::{Cusum, Ewma, Pelt};
+use crate::wrapped::{by_settings, cost, penalty, same, Charted, Refused, Row};
+use overbrindle::detection::{Cusum, CusumResult, Ewma, EwmaResult, Pelt};
 
 /// The refusals in whose place it panics.
 const PANICS: [u32; 2] = [3, 6];
@@ -66,14 +67,25 @@ fn ewma(settings: &Settings) -> Option<Ewma> {
     }
 }
 
-fn cusum_charted(chart: &Cusum, points: bool, readings: &[f64]) -> Charted {
+/// Its records say whether a reading signals, as the Rust's do, and no side.
+fn cusum_row(r: &CusumResult) -> Row<bool> {
+    let values = [r.s_upper, r.s_lower].map(pattern).to_vec();
+    (values, r.signal, r.index)
+}
+
+fn ewma_row(r: &EwmaResult) -> Row<bool> {
+    let values = [r.ewma, r.ucl, r.lcl].map(pattern).to_vec();
+    (values, r.signal, r.index)
+}
+
+fn cusum_charted(chart: &Cusum, points: bool, readings: &[f64]) -> Charted<bool> {
     match points {
         true => Charted::Points(chart.signal_points(readings)),
         false => Charted::Records(chart.analyze(readings).iter().map(cusum_row).collect()),
     }
 }
 
-fn ewma_charted(chart: &Ewma, points: bool, readings: &[f64]) -> Charted {
+fn ewma_charted(chart: &Ewma, points: bool, readings: &[f64]) -> Charted<bool> {
     match points {
         true => Charted::Points(chart.signal_points(readings)),
         false => Charted::Records(chart.analyze(readings).iter().map(ewma_row).collect()),
@@ -81,7 +93,7 @@ fn ewma_charted(chart: &Ewma, points: bool, readings: &[f64]) -> Charted {
 }
 
 /// The chart's records or its signal points, whichever the case asks for.
-pub fn chart(chart: &Chart, due: &Result<Charted, Refused>) -> Result<(), String> {
+pub fn chart(chart: &Chart, due: &Result<Charted<bool>, Refused>) -> Result<(), String> {
     if panics(due) {
         return Ok(());
     }

@@ -3,7 +3,7 @@
 //! answer what the Rust does.
 
 use crate::calls::{self, Call};
-use crate::charted::{Answer, Record};
+use crate::charted::{Answer, Record, ABOVE, BELOW, BOTH};
 use crate::charts::{Chart, Kind, RunLength};
 use crate::in_place;
 use crate::pieces::Piece;
@@ -11,7 +11,7 @@ use crate::rules::pattern;
 use crate::series::Settings;
 use overbrindle::{
     CostFunction, Cusum, CusumResult, Ewma, EwmaResult, MultiPeltResult, Pelt, PeltResult, Penalty,
-    PieceSummary, Refusal, Side,
+    PieceSummary, Refusal, Side, Sum,
 };
 use std::fmt::Debug;
 
@@ -102,22 +102,29 @@ fn search_here(call: &Call, due: &Result<Vec<usize>, Refused>) -> Result<(), Str
     same(what, &found.map_err(told), due)
 }
 
-/// What a chart made of one reading, with the bits of its values.
-pub type Row = (Vec<u64>, bool, usize);
+/// What a chart made of one reading: the bits of its values, what it says of a signal, and the index.
+pub type Row<S> = (Vec<u64>, S, usize);
 
-fn due_row(record: &Record) -> Row {
-    let values = record.values.iter().map(|&value| pattern(value)).collect();
-    (values, record.signal, record.index)
+/// What a record here says of a signal: its side, and whether it signals at all, above and below.
+type Sided = (Side, [bool; 3]);
+
+fn due_side(record: &Record) -> Sided {
+    let side = [Side::None, Side::Above, Side::Below, Side::Both][usize::from(record.side)];
+    let above = [ABOVE, BOTH].contains(&record.side);
+    let below = [BELOW, BOTH].contains(&record.side);
+    (side, [record.signal, above, below])
 }
 
-pub fn cusum_row(r: &CusumResult) -> Row {
+fn cusum_row(r: &CusumResult) -> Row<Sided> {
     let values = [r.s_upper, r.s_lower].map(pattern).to_vec();
-    (values, r.signal, r.index)
+    let said = [r.signal(), r.side.is_above(), r.side.is_below()];
+    (values, (r.side, said), r.index)
 }
 
-pub fn ewma_row(r: &EwmaResult) -> Row {
+fn ewma_row(r: &EwmaResult) -> Row<Sided> {
     let values = [r.ewma, r.ucl, r.lcl].map(pattern).to_vec();
-    (values, r.signal, r.index)
+    let said = [r.signal(), r.side.is_above(), r.side.is_below()];
+    (values, (r.side, said), r.index)
 }
 
 /// A chart as the Rust makes it with these settings: by `new`, or with parameters.
@@ -139,14 +146,14 @@ fn ewma(settings: &Settings) -> Result<Ewma, Refusal> {
 
 /// What a chart answers: its records, each with all of its fields, or its signal points.
 #[derive(Debug, PartialEq)]
-pub enum Charted {
-    Records(Vec<Row>),
+pub enum Charted<S> {
+    Records(Vec<Row<S>>),
     Points(Vec<usize>),
 }
 
-impl Charted {
+impl<S: PartialEq + Debug> Charted<S> {
     /// The first place at which records differ says more than all of them.
-    pub fn compare(&self, name: &str, due: &Charted) -> Result<(), String> {
+    pub fn compare(&self, name: &str, due: &Self) -> Result<(), String> {
         let (Charted::Records(found), Charted::Records(due)) = (self, due) else {
             return same(&format!("{name}signal_points"), self, due);
         };
@@ -158,14 +165,14 @@ impl Charted {
     }
 }
 
-fn cusum_charted(chart: &Cusum, points: bool, readings: &[f64]) -> Result<Charted, Refusal> {
+fn cusum_charted(chart: &Cusum, points: bool, readings: &[f64]) -> Result<Charted<Sided>, Refusal> {
     Ok(match points {
         true => Charted::Points(chart.signal_points(readings)?),
         false => Charted::Records(chart.analyze(readings)?.iter().map(cusum_row).collect()),
     })
 }
 
-fn ewma_charted(chart: &Ewma, points: bool, readings: &[f64]) -> Result<Charted, Refusal> {
+fn ewma_charted(chart: &Ewma, points: bool, readings: &[f64]) -> Result<Charted<Sided>, Refusal> {
     Ok(match points {
         true => Charted::Points(chart.signal_points(readings)?),
         false => Charted::Records(chart.analyze(readings)?.iter().map(ewma_row).collect()),
@@ -175,8 +182,8 @@ fn ewma_charted(chart: &Ewma, points: bool, readings: &[f64]) -> Result<Charted,
 /// What the package makes of a chart, if its constructor makes it.
 fn charted(
     chart: &Chart,
-    due: &Result<Charted, Refused>,
-) -> Result<Option<Result<Charted, Refusal>>, String> {
+    due: &Result<Charted<Sided>, Refused>,
+) -> Result<Option<Result<Charted<Sided>, Refusal>>, String> {
     let (settings, points, readings) = (chart.made_with(), chart.points, &chart.readings[..]);
     Ok(match chart.kind {
         Kind::Cusum => made("CUSUM", cusum(&settings), due)?
@@ -187,21 +194,36 @@ fn charted(
     })
 }
 
-/// The chart's records or its signal points, whichever the case asks for, and then by module `detection`.
-pub fn chart(chart: &Chart, due: &Result<Answer, u32>) -> Result<(), String> {
-    let due = match due {
-        Ok(answer) if chart.points => Ok(Charted::Points(answer.points.clone())),
-        Ok(answer) => Ok(Charted::Records(
-            answer.records.iter().map(due_row).collect(),
-        )),
-        Err(number) => Err(refused(*number, (0, 0))),
+/// What the chart has to answer, where its records say this of a signal.
+fn due_charted<S>(
+    chart: &Chart,
+    due: &Result<Answer, u32>,
+    said: fn(&Record) -> S,
+) -> Result<Charted<S>, Refused> {
+    let row = |record: &Record| {
+        let values = record.values.iter().map(|&value| pattern(value)).collect();
+        (values, said(record), record.index)
     };
-    match (charted(chart, &due)?, &due) {
+    match due {
+        Ok(answer) if chart.points => Ok(Charted::Points(answer.points.clone())),
+        Ok(answer) => Ok(Charted::Records(answer.records.iter().map(row).collect())),
+        Err(number) => Err(refused(*number, (0, 0))),
+    }
+}
+
+/// The chart's records or its signal points, whichever the case asks for, and then by module `detection`, whose
+/// records have the Rust's yes or no in place of a side.
+pub fn chart(chart: &Chart, due: &Result<Answer, u32>) -> Result<(), String> {
+    chart_here(chart, &due_charted(chart, due, due_side))?;
+    in_place::chart(chart, &due_charted(chart, due, |record| record.signal))
+}
+
+fn chart_here(chart: &Chart, due: &Result<Charted<Sided>, Refused>) -> Result<(), String> {
+    match (charted(chart, due)?, due) {
         (None, _) => Ok(()),
         (Some(Ok(found)), Ok(due)) => found.compare("", due),
         (Some(found), due) => same("chart", &found.map_err(told), due),
-    }?;
-    in_place::chart(chart, &due)
+    }
 }
 
 /// The reading at which the level is heard, 0 for none, or the number of the refusal.
@@ -213,8 +235,8 @@ pub fn run_length(asked: &RunLength, (number, reading): (u32, usize)) -> Result<
     let Some(chart) = made("CUSUM", cusum(&asked.made_with()), &due)? else {
         return Ok(());
     };
-    let side = [Side::Upper, Side::Lower][asked.side as usize];
-    let found = chart.run_length(asked.level, side);
+    let sum = [Sum::Upper, Sum::Lower][asked.sum as usize];
+    let found = chart.run_length(asked.level, sum);
     same("run_length", found.map_err(told), due)
 }
 

@@ -25,17 +25,26 @@ fn head(unit: &str) {
     println!("| | ours, {unit} | the Rust's, {unit} | ratio |\n|---|---|---|---|");
 }
 
-/// Charts, and noise variances, of many readings and of few.
+/// Charts, and noise variances, of many readings and of few, and of other kinds of series.
 fn print_charts(best: Best, random: &mut Random) {
     println!("\nCharts, and the noise variance of BIC, {N} readings:\n");
     head("µs");
-    charts::rows(best, random, N).iter().for_each(Row::print);
+    let rows = charts::rows(best, &charts::drifting(random, N));
+    rows.iter().for_each(Row::print);
     println!("\nThe same of {SHORT} readings, a thousand calls:\n");
     head("µs");
-    charts::rows(best, random, SHORT)
+    charts::rows(best, &charts::drifting(random, SHORT))
         .iter()
         .map(|row| Row::new(&row.name, row.ours * 1e3, row.theirs * 1e3))
         .for_each(|row| row.print());
+    println!("\nThe same of {N} rounded readings about levels that change at every 16th:\n");
+    head("µs");
+    let rows = charts::rows(best, &charts::stepped(random, N));
+    rows.iter().for_each(Row::print);
+    println!("\nThe same of {N} readings at the target:\n");
+    head("µs");
+    let rows = charts::rows(best, &charts::flat(N));
+    rows.iter().for_each(Row::print);
 }
 
 fn main() {

@@ -1,4 +1,4 @@
-/* The CUSUM chart: its records, signal points and run length, and their refusals in order. */
+/* The CUSUM chart: its records with their sides, its signal points and run length, and their refusals in order. */
 #include "checks.h"
 
 #include <math.h>
@@ -29,36 +29,36 @@ enum { ARRAYS = 4, ENOUGH = TOO_MANY };
 
 /* What a call is lent, and what it says. */
 static double upper[ENOUGH], lower[ENOUGH];
-static uint8_t signals[ENOUGH];
+static uint8_t sides[ENOUGH];
 static size_t indices[ENOUGH], count;
 
 /* Asks for records in arrays of `room` elements, of which the one with the number `short_one` has one less. */
 static uint32_t ask(struct chart c, const double *data, size_t n, size_t room, int short_one) {
     lend_floats(upper, ENOUGH);
     lend_floats(lower, ENOUGH);
-    lend_bytes(signals, ENOUGH);
+    lend_bytes(sides, ENOUGH);
     lend_wholes(indices, ENOUGH);
     count = LENT;
     return overbrindle_cusum_analyze(c.target, c.sigma, c.k, c.h, data, n, upper, room - (short_one == 0),
-        lower, room - (short_one == 1), signals, room - (short_one == 2), indices, room - (short_one == 3), &count);
+        lower, room - (short_one == 1), sides, room - (short_one == 2), indices, room - (short_one == 3), &count);
 }
 
 /* That the arrays are as they were from the index `from` on. */
 static void left(const char *file, int line, size_t from) {
     floats_are(file, line, upper, from, ENOUGH, LENT);
     floats_are(file, line, lower, from, ENOUGH, LENT);
-    bytes_are(file, line, signals, from, ENOUGH, LENT);
+    bytes_are(file, line, sides, from, ENOUGH, LENT);
     wholes_are(file, line, indices, from, ENOUGH, LENT);
 }
 
 static void records(const char *file, int line, const double *data, size_t n, const double *uppers,
-                    const double *lowers, const uint8_t *signalled) {
+                    const double *lowers, const uint8_t *sided) {
     whole(file, line, ask(usual, data, n, n + 2, ARRAYS), 0);
     whole(file, line, count, n);
     for (size_t i = 0; i < n; i++) {
         same(file, line, upper[i], uppers[i]);
         same(file, line, lower[i], lowers[i]);
-        whole(file, line, signals[i], signalled[i]);
+        whole(file, line, sides[i], sided[i]);
         whole(file, line, indices[i], i);
     }
     left(file, line, n);
@@ -70,15 +70,41 @@ static void refused(const char *file, int line, struct chart c, size_t n, size_t
     left(file, line, 0);
 }
 
+/* The sides by shorter names. */
+enum { NONE = OVERBRINDLE_NONE, ABOVE = OVERBRINDLE_ABOVE, BELOW = OVERBRINDLE_BELOW, BOTH = OVERBRINDLE_BOTH };
+
 static void test_records(void) {
-    const double threes[] = {3, 3, 3}, gap[] = {8, NAN}, both[] = {-8, 8}, zeros[] = {0, 0, 0};
+    const double threes[] = {3, 3, 3}, gap[] = {8, NAN}, turned[] = {-8, 8}, zeros[] = {0, 0, 0};
     const double rising[] = {2.5, 5, 7.5}, held[] = {7.5, 7.5}, first[] = {7.5, 0}, second[] = {0, 7.5};
-    const uint8_t last[] = {0, 0, 1}, front[] = {1, 0}, all[] = {1, 1};
+    const uint8_t last[] = {NONE, NONE, ABOVE}, front[] = {ABOVE, NONE}, below_above[] = {BELOW, ABOVE};
     records(HERE, threes, 3, rising, zeros, last);
     records(HERE, gap, 2, held, zeros, front);
-    records(HERE, both, 2, second, first, all);
+    records(HERE, turned, 2, second, first, below_above);
     records(HERE, threes, 0, zeros, zeros, last);
+}
 
+/* Both sums above h, and a gap behind them; and a sum that is h itself while the other one is above it. */
+static void test_sides(void) {
+    const double both[] = {20, -10, NAN, -10}, uppers[] = {19.5, 9, 9, 0}, lowers[] = {0, 9.5, 9.5, 19};
+    const double down[] = {16, -10}, up[] = {-16, 10}, falling[] = {15.5, 5}, rising[] = {0, 9.5};
+    const uint8_t all[] = {ABOVE, BOTH, NONE, BELOW}, above_below[] = {ABOVE, BELOW}, below_above[] = {BELOW, ABOVE};
+    records(HERE, both, 4, uppers, lowers, all);
+    records(HERE, down, 2, falling, rising, above_below);
+    records(HERE, up, 2, rising, falling, below_above);
+
+    /* A level of 3 is heard at its third reading, above or both, however large the lower sum is. */
+    const double shift[] = {-100, 3, 3, 3}, risen[] = {0, 2.5, 5, 7.5}, sinking[] = {99.5, 96, 92.5, 89};
+    const uint8_t heard[] = {BELOW, BELOW, BELOW, BOTH};
+    records(HERE, shift, 4, risen, sinking, heard);
+
+    /* The numbers by which other languages know the sides. */
+    whole(HERE, NONE, 0);
+    whole(HERE, ABOVE, 1);
+    whole(HERE, BELOW, 2);
+    whole(HERE, BOTH, 3);
+}
+
+static void test_refused_records(void) {
     for (size_t i = 0; i < WRONG; i++) {
         refused(HERE, wrong[i].settings, 0, 0, ARRAYS, wrong[i].number);
         refused(HERE, wrong[i].settings, 4, 4, ARRAYS, wrong[i].number);
@@ -122,11 +148,11 @@ static void test_points(void) {
     no_points(HERE, usual, 4, 3, 7);
 }
 
-/* That `level` on `side` is answered with `number`, and first heard at `heard`. */
-static void hears(const char *file, int line, struct chart c, double level, uint32_t side, uint32_t number,
+/* That `level` by `sum` is answered with `number`, and first heard at `heard`. */
+static void hears(const char *file, int line, struct chart c, double level, uint32_t sum, uint32_t number,
                   size_t heard) {
     size_t reading = LENT;
-    whole(file, line, overbrindle_cusum_run_length(c.target, c.sigma, c.k, c.h, level, side, &reading), number);
+    whole(file, line, overbrindle_cusum_run_length(c.target, c.sigma, c.k, c.h, level, sum, &reading), number);
     whole(file, line, reading, heard);
 }
 
@@ -148,6 +174,8 @@ static void test_run_lengths(void) {
 
 void test_cusum(void) {
     test_records();
+    test_sides();
+    test_refused_records();
     test_points();
     test_run_lengths();
 }

@@ -1,4 +1,4 @@
-/* The EWMA chart: its records and signal points, and their refusals in order. */
+/* The EWMA chart: its records with their sides, its signal points, and their refusals in order. */
 #include "checks.h"
 
 #include <math.h>
@@ -7,8 +7,8 @@ struct chart {
     double target, sigma, lambda, l_factor;
 };
 
-/* Target 0 and sigma 1: one whose statistic is the reading, and one that halves. */
-static const struct chart last_alone = {0, 1, 1, 3}, halving = {0, 1, 0.5, 4};
+/* Target 0: one whose statistic is the reading, one that halves, and one whose limits are NaN. */
+static const struct chart last_alone = {0, 1, 1, 3}, halving = {0, 1, 0.5, 4}, no_limits = {0, 1e200, 1e-300, 1e200};
 
 /* Settings of which some are out of range, and the refusal of the first of these. */
 static const struct {
@@ -28,7 +28,7 @@ enum { ARRAYS = 5, ENOUGH = TOO_MANY };
 
 /* What a call is lent, and what it says. */
 static double statistic[ENOUGH], upper[ENOUGH], lower[ENOUGH];
-static uint8_t signals[ENOUGH];
+static uint8_t sides[ENOUGH];
 static size_t indices[ENOUGH], count;
 
 /* Asks for records in arrays of `room` elements, of which the one with the number `short_one` has one less. */
@@ -36,12 +36,12 @@ static uint32_t ask(struct chart c, const double *data, size_t n, size_t room, i
     lend_floats(statistic, ENOUGH);
     lend_floats(upper, ENOUGH);
     lend_floats(lower, ENOUGH);
-    lend_bytes(signals, ENOUGH);
+    lend_bytes(sides, ENOUGH);
     lend_wholes(indices, ENOUGH);
     count = LENT;
     return overbrindle_ewma_analyze(c.target, c.sigma, c.lambda, c.l_factor, data, n,
         statistic, room - (short_one == 0), upper, room - (short_one == 1), lower, room - (short_one == 2),
-        signals, room - (short_one == 3), indices, room - (short_one == 4), &count);
+        sides, room - (short_one == 3), indices, room - (short_one == 4), &count);
 }
 
 /* That the arrays are as they were from the index `from` on. */
@@ -49,20 +49,20 @@ static void left(const char *file, int line, size_t from) {
     floats_are(file, line, statistic, from, ENOUGH, LENT);
     floats_are(file, line, upper, from, ENOUGH, LENT);
     floats_are(file, line, lower, from, ENOUGH, LENT);
-    bytes_are(file, line, signals, from, ENOUGH, LENT);
+    bytes_are(file, line, sides, from, ENOUGH, LENT);
     wholes_are(file, line, indices, from, ENOUGH, LENT);
 }
 
 /* Records whose limits are `limit` and minus that. */
 static void records(const char *file, int line, struct chart c, const double *data, size_t n,
-                    const double *statistics, double limit, const uint8_t *signalled) {
+                    const double *statistics, double limit, const uint8_t *sided) {
     whole(file, line, ask(c, data, n, n + 2, ARRAYS), 0);
     whole(file, line, count, n);
     for (size_t i = 0; i < n; i++) {
         same(file, line, statistic[i], statistics[i]);
         same(file, line, upper[i], limit);
         same(file, line, lower[i], -limit);
-        whole(file, line, signals[i], signalled[i]);
+        whole(file, line, sides[i], sided[i]);
         whole(file, line, indices[i], i);
     }
     left(file, line, n);
@@ -74,16 +74,23 @@ static void refused(const char *file, int line, struct chart c, size_t n, size_t
     left(file, line, 0);
 }
 
+/* The sides by shorter names. */
+enum { NONE = OVERBRINDLE_NONE, ABOVE = OVERBRINDLE_ABOVE, BELOW = OVERBRINDLE_BELOW };
+
 static void test_records(void) {
-    const double at_the_limit[] = {3}, outside[] = {3.5}, gap[] = {4, NAN}, carried[] = {4, 4};
-    const double one[] = {1}, half[] = {0.5};
-    const uint8_t none[] = {0}, front[] = {1, 0};
-    records(HERE, last_alone, at_the_limit, 1, at_the_limit, 3, none);
-    records(HERE, last_alone, outside, 1, outside, 3, front);
-    records(HERE, last_alone, gap, 2, carried, 3, front);
+    const double at_the_limits[] = {3, -3}, outside[] = {3.5, -3.5}, one[] = {1}, half[] = {0.5}, tiny[] = {1e-300};
+    const double high[] = {4, NAN}, low[] = {-4, INFINITY}, held_high[] = {4, 4}, held_low[] = {-4, -4};
+    const uint8_t none[] = {NONE, NONE}, each[] = {ABOVE, BELOW}, above[] = {ABOVE, NONE}, below[] = {BELOW, NONE};
+    records(HERE, last_alone, at_the_limits, 2, at_the_limits, 3, none);
+    records(HERE, last_alone, outside, 2, outside, 3, each);
+    records(HERE, last_alone, high, 2, held_high, 3, above);
+    records(HERE, last_alone, low, 2, held_low, 3, below);
+    records(HERE, no_limits, one, 1, tiny, NAN, none);
     records(HERE, halving, one, 1, half, 2, none);
     records(HERE, halving, one, 0, half, 2, none);
+}
 
+static void test_refused_records(void) {
     for (size_t i = 0; i < WRONG; i++) {
         refused(HERE, wrong[i].settings, 0, 0, ARRAYS, wrong[i].number);
         refused(HERE, wrong[i].settings, 4, 4, ARRAYS, wrong[i].number);
@@ -130,5 +137,6 @@ static void test_points(void) {
 
 void test_ewma(void) {
     test_records();
+    test_refused_records();
     test_points();
 }

@@ -10,11 +10,18 @@ use ewma::Ewma;
 const OF_SETTINGS: [u8; 4] = [15, 16, 17, 18];
 const NON_FINITE: u8 = 8;
 pub const MOST_READINGS: usize = 4096;
+/// The numbers of the sides of a record.
+pub const NONE: u8 = 0;
+pub const ABOVE: u8 = 1;
+pub const BELOW: u8 = 2;
+pub const BOTH: u8 = 3;
 /// Nearly all series are short, so that there is room for many.
 const SHORT: [u64; 3] = [16, 80, 300];
 
+/// A record of the Rust, with the side that its values have, and the Rust's own yes or no beside it.
 pub struct Record {
     pub values: Vec<f64>,
+    pub side: u8,
     pub signal: bool,
     pub index: usize,
 }
@@ -23,6 +30,15 @@ pub struct Record {
 pub struct Answer {
     pub records: Vec<Record>,
     pub points: Vec<usize>,
+}
+
+impl Answer {
+    /// The index of the first record of which the Rust says something else than its side: yes where the side is
+    /// none, or no where it is another.
+    pub fn contradiction(&self) -> Option<usize> {
+        let contradicts = |record: &Record| record.signal != (record.side != NONE);
+        self.records.iter().position(contradicts)
+    }
 }
 
 #[derive(Clone, Copy, Debug, PartialEq)]
@@ -50,38 +66,79 @@ pub fn ewma_chart(settings: &Settings) -> Option<Ewma> {
     }
 }
 
+fn side(above: bool, below: bool) -> u8 {
+    match (above, below) {
+        (false, false) => NONE,
+        (true, false) => ABOVE,
+        (false, true) => BELOW,
+        (true, true) => BOTH,
+    }
+}
+
+/// The side of a CUSUM record by rules 5.2 and 5.3: of a reading, and the sums after it.
+fn cusum_side(h: f64, reading: f64, [upper, lower]: [f64; 2]) -> u8 {
+    let heard = |sum: f64| reading.is_finite() && h < sum;
+    side(heard(upper), heard(lower))
+}
+
+/// The side of an EWMA record by rules 5.2 and 5.4: of a reading, and the statistic and the limits after it.
+pub fn ewma_side(reading: f64, [statistic, ucl, lcl]: [f64; 3]) -> u8 {
+    let finite = reading.is_finite();
+    side(finite && ucl < statistic, finite && statistic < lcl)
+}
+
+/// The h that the chart has: one by `new` has its own.
+fn h_of(settings: &Settings) -> f64 {
+    match settings.by_new {
+        true => usual(Kind::Cusum)[3],
+        false => settings.values[3],
+    }
+}
+
 pub fn cusum_answer(settings: &Settings, readings: &[f64]) -> Option<Answer> {
     let chart = cusum_chart(settings)?;
-    let record = |r: cusum::CusumResult| Record {
+    let h = h_of(settings);
+    let record = |(r, &reading): (cusum::CusumResult, &f64)| Record {
         values: vec![r.s_upper, r.s_lower],
+        side: cusum_side(h, reading, [r.s_upper, r.s_lower]),
         signal: r.signal,
         index: r.index,
     };
+    let records = chart.analyze(readings).into_iter().zip(readings);
     Some(Answer {
-        records: chart.analyze(readings).into_iter().map(record).collect(),
+        records: records.map(record).collect(),
         points: chart.signal_points(readings),
     })
 }
 
 pub fn ewma_answer(settings: &Settings, readings: &[f64]) -> Option<Answer> {
     let chart = ewma_chart(settings)?;
-    let record = |r: ewma::EwmaResult| Record {
+    let record = |(r, &reading): (ewma::EwmaResult, &f64)| Record {
         values: vec![r.ewma, r.ucl, r.lcl],
+        side: ewma_side(reading, [r.ewma, r.ucl, r.lcl]),
         signal: r.signal,
         index: r.index,
     };
+    let records = chart.analyze(readings).into_iter().zip(readings);
     Some(Answer {
-        records: chart.analyze(readings).into_iter().map(record).collect(),
+        records: records.map(record).collect(),
         points: chart.signal_points(readings),
     })
 }
 
 /// What the Rust's chart makes of a series, if there is a chart with these settings.
+///
+/// # Panics
+///
+/// If the side of a record is none where the Rust signals, or another where it does not, as at a gap.
 pub fn answer(kind: Kind, settings: &Settings, readings: &[f64]) -> Option<Answer> {
-    match kind {
-        Kind::Cusum => cusum_answer(settings, readings),
-        Kind::Ewma => ewma_answer(settings, readings),
-    }
+    let answer = match kind {
+        Kind::Cusum => cusum_answer(settings, readings)?,
+        Kind::Ewma => ewma_answer(settings, readings)?,
+    };
+    let contradiction = answer.contradiction();
+    assert_eq!(contradiction, None, "{kind:?} {:?}", settings.values);
+    Some(answer)
 }
 
 /// Whether each of a chart's settings is in range, by rule 5.1: the target, sigma, k or lambda, h or L. The
@@ -208,7 +265,7 @@ pub fn run_length_answer(settings: &Settings, level: f64, upper: bool) -> (u8, u
     let refused = refused_by(Kind::Cusum, settings, made.is_some());
     match made {
         Some(_) if !level.is_finite() => (NON_FINITE, 0),
-        Some(chart) => (0, run_length(&chart, settings.values[3], level, upper)),
+        Some(chart) => (0, run_length(&chart, h_of(settings), level, upper)),
         None => (refused.expect("a refusal"), 0),
     }
 }

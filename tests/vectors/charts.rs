@@ -3,8 +3,8 @@
 //! `tests/vectors/run` makes them.
 //!
 //! The files of the Rust are compiled as they are, so every answer is the unmodified Rust's. What the
-//! program wrote, and for an EWMA chart how many of the powers that it asked differ from the rule of
-//! docs/RULES.md, it says on standard error.
+//! program wrote, how many records are of each side, and for an EWMA chart how many of the powers that it
+//! asked differ from the rule of docs/RULES.md, it says on standard error.
 //!
 //! Numbers have their highest byte first, and values are bit patterns, every NaN of an answer as
 //! 7ff8000000000000. A case begins with a letter and the four settings, 8 bytes each.
@@ -13,7 +13,7 @@
 //! the number of readings in 2 bytes, and 8 bytes for each reading; then a byte that is 0, or 15 to 18
 //! where the Rust makes no such chart, and with such a number the case ends; then what `signal_points` gives,
 //! their number and each of them in 2 bytes; then for each reading its record, 8 bytes for each value,
-//! a byte that is 1 for a signal, and the index in 2 bytes.
+//! a byte for the side, 0 none, 1 above, 2 below or 3 both, and the index in 2 bytes.
 //!
 //! `u` or `l`, the run length of a level by the upper or the lower sum of a chart by `with_params`:
 //! 8 bytes for the level; then a byte that is 0, or 15 to 18 where the Rust makes no such chart, or 8 where
@@ -22,7 +22,8 @@
 //!
 //! The Rust does not say which setting is wrong. The number is that of the first that is out of range by rule
 //! 5.1, in the order in which the Rust tests them; that it makes no chart exactly where there is such a
-//! setting is asserted.
+//! setting is asserted. Nor does it say on which side a record signals. The side is worked out by rules 5.2 to
+//! 5.4 from the Rust's own sums and limits; that it is not none exactly where the Rust signals is asserted.
 
 mod charted;
 #[allow(dead_code)]
@@ -43,6 +44,18 @@ struct Written {
     refused: usize,
     records: usize,
     points: usize,
+    /// By the numbers of the sides.
+    sides: [usize; 4],
+}
+
+impl Written {
+    fn count(&mut self, answer: &Answer) {
+        self.records += answer.records.len();
+        self.points += answer.points.len();
+        for record in &answer.records {
+            self.sides[usize::from(record.side)] += 1;
+        }
+    }
 }
 
 fn write_value(out: &mut impl Write, x: f64) -> io::Result<()> {
@@ -71,7 +84,7 @@ fn write_answer(out: &mut impl Write, answer: &Answer) -> io::Result<()> {
         for &value in &record.values {
             write_value(out, value)?;
         }
-        out.write_all(&[u8::from(record.signal)])?;
+        out.write_all(&[record.side])?;
         write_short(out, record.index)?;
     }
     Ok(())
@@ -96,10 +109,17 @@ fn write_series(
         written.refused += 1;
         return out.write_all(&[refused.expect("a refusal")]);
     };
-    written.records += answer.records.len();
-    written.points += answer.points.len();
+    written.count(&answer);
     out.write_all(&[0])?;
     write_answer(out, &answer)
+}
+
+/// Every side that a chart can have has to be among the records; those of an EWMA chart are never both.
+fn report_sides(kind: Kind, sides: [usize; 4]) {
+    let [none, above, below, both] = sides;
+    eprintln!("sides: {none} none, {above} above, {below} below, {both} both");
+    let due = [true, true, true, kind == Kind::Cusum];
+    assert_eq!(sides.map(|count| count > 0), due, "{kind:?}");
 }
 
 fn write_all(out: &mut impl Write, kind: Kind, cases: &[Case]) -> io::Result<()> {
@@ -112,6 +132,7 @@ fn write_all(out: &mut impl Write, kind: Kind, cases: &[Case]) -> io::Result<()>
     } = written;
     eprintln!("{series} series, of which {refused} are refused");
     eprintln!("{} records, {} points", written.records, written.points);
+    report_sides(kind, written.sides);
     Ok(())
 }
 

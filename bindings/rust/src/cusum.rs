@@ -2,11 +2,11 @@
 
 use crate::lent::{self, CusumAreas, CusumSettings};
 use crate::refusal::counted;
-use crate::{Refusal, MAX_READINGS};
+use crate::{Refusal, Side, MAX_READINGS};
 
 /// Which of the two sums of a CUSUM chart is asked.
 #[derive(Clone, Copy, Debug, PartialEq, Eq)]
-pub enum Side {
+pub enum Sum {
     /// The sum that rises with readings above the target.
     Upper,
     /// The sum that rises with readings below the target.
@@ -20,23 +20,31 @@ pub struct CusumResult {
     pub s_upper: f64,
     /// The lower sum.
     pub s_lower: f64,
-    /// Whether a sum is above h. A reading that is not finite carries the sums on, without a signal.
-    pub signal: bool,
+    /// Which sums are above h. A reading that is not finite carries the sums on, and its side is none.
+    pub side: Side,
     /// The index of the reading, from 0.
     pub index: usize,
+}
+
+impl CusumResult {
+    /// Whether the reading signals, on whichever side.
+    pub fn signal(&self) -> bool {
+        self.side.signals()
+    }
 }
 
 /// A CUSUM chart, which signals small shifts of the mean that last.
 ///
 /// ```
-/// use overbrindle::{Cusum, Refusal, Side};
+/// use overbrindle::{Cusum, Refusal, Side, Sum};
 ///
 /// let chart = Cusum::new(0.0, 1.0)?;
 /// let records = chart.analyze(&[3.0, 3.0, 3.0])?;
 /// let sums: Vec<f64> = records.iter().map(|record| record.s_upper).collect();
 /// assert_eq!(sums, [2.5, 5.0, 7.5]);
+/// assert_eq!(records[2].side, Side::Above);
 /// assert_eq!(chart.signal_points(&[3.0, 3.0, 3.0])?, [2]);
-/// assert_eq!(chart.run_length(3.0, Side::Upper)?, Some(3));
+/// assert_eq!(chart.run_length(3.0, Sum::Upper)?, Some(3));
 /// # Ok::<(), Refusal>(())
 /// ```
 #[derive(Clone, Copy, Debug)]
@@ -67,18 +75,18 @@ impl Cusum {
         // More readings are refused before the room is looked at.
         let n = data.len().min(MAX_READINGS);
         let (mut s_upper, mut s_lower) = (vec![0.0; n], vec![0.0; n]);
-        let (mut signal, mut index) = (vec![0; n], vec![0; n]);
+        let (mut side, mut index) = (vec![0; n], vec![0; n]);
         let areas = CusumAreas {
             s_upper: &mut s_upper,
             s_lower: &mut s_lower,
-            signal: &mut signal,
+            side: &mut side,
             index: &mut index,
         };
         let count = counted(lent::cusum_analyze(self.0, data, areas))?;
         let record = |i: usize| CusumResult {
             s_upper: s_upper[i],
             s_lower: s_lower[i],
-            signal: signal[i] != 0,
+            side: Side::of(side[i]),
             index: index[i],
         };
         Ok((0..count).map(record).collect())
@@ -98,13 +106,14 @@ impl Cusum {
     /// [`Refusal::NonFinite`].
     ///
     /// It is a promise about every series that the chart takes: where the run length of a level is N, the
-    /// Nth of any next N finite readings at or beyond the level signals.
-    pub fn run_length(&self, level: f64, side: Side) -> Result<Option<usize>, Refusal> {
-        let side = match side {
-            Side::Upper => 0,
-            Side::Lower => 1,
+    /// Nth of any next N finite readings at or beyond the level signals on the side of that sum:
+    /// [`Side::is_above`] holds for the upper sum, and [`Side::is_below`] for the lower.
+    pub fn run_length(&self, level: f64, sum: Sum) -> Result<Option<usize>, Refusal> {
+        let sum = match sum {
+            Sum::Upper => 0,
+            Sum::Lower => 1,
         };
-        let reading = counted(lent::cusum_run_length(self.0, level, side))?;
+        let reading = counted(lent::cusum_run_length(self.0, level, sum))?;
         Ok((reading > 0).then_some(reading))
     }
 }

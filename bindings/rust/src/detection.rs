@@ -8,9 +8,10 @@
 //! These signatures have no place for the library's limits, [`MAX_CHANNELS`](crate::MAX_CHANNELS) and
 //! [`MAX_READINGS`](crate::MAX_READINGS). A call beyond them panics with the refusal's text: an empty answer
 //! would read as "nothing found". The types of the package's root answer with a `Result` instead, and have
-//! the strict searches, which refuse a reading that is not finite.
+//! the strict searches, which refuse a reading that is not finite. Their records say on which side a reading
+//! signals; those of u-analytics say only whether it does.
 
-pub use crate::{CostFunction, CusumResult, EwmaResult, MultiPeltResult, PeltResult, Penalty};
+pub use crate::{CostFunction, MultiPeltResult, PeltResult, Penalty};
 
 use crate::Refusal;
 
@@ -84,6 +85,30 @@ impl Pelt {
     }
 }
 
+/// What a CUSUM chart makes of one reading.
+#[derive(Debug, Clone)]
+pub struct CusumResult {
+    /// The upper sum.
+    pub s_upper: f64,
+    /// The lower sum.
+    pub s_lower: f64,
+    /// Whether a sum is above h. A reading that is not finite carries the sums on, without a signal.
+    pub signal: bool,
+    /// The index of the reading, from 0.
+    pub index: usize,
+}
+
+impl CusumResult {
+    fn of(record: crate::CusumResult) -> Self {
+        CusumResult {
+            s_upper: record.s_upper,
+            s_lower: record.s_lower,
+            signal: record.signal(),
+            index: record.index,
+        }
+    }
+}
+
 /// A CUSUM chart.
 ///
 /// ```
@@ -114,7 +139,8 @@ impl Cusum {
     /// If there are more than [`MAX_READINGS`](crate::MAX_READINGS) readings.
     #[track_caller]
     pub fn analyze(&self, data: &[f64]) -> Vec<CusumResult> {
-        expected(self.0.analyze(data))
+        let records = expected(self.0.analyze(data));
+        records.into_iter().map(CusumResult::of).collect()
     }
 
     /// The indices of the readings that signal, lowest first.
@@ -125,6 +151,34 @@ impl Cusum {
     #[track_caller]
     pub fn signal_points(&self, data: &[f64]) -> Vec<usize> {
         expected(self.0.signal_points(data))
+    }
+}
+
+/// What an EWMA chart makes of one reading.
+#[derive(Debug, Clone)]
+pub struct EwmaResult {
+    /// The statistic: the moving average.
+    pub ewma: f64,
+    /// The upper limit at this reading.
+    pub ucl: f64,
+    /// The lower limit at this reading.
+    pub lcl: f64,
+    /// Whether the statistic is outside the limits. A reading that is not finite carries it on, without a
+    /// signal.
+    pub signal: bool,
+    /// The index of the reading, from 0.
+    pub index: usize,
+}
+
+impl EwmaResult {
+    fn of(record: crate::EwmaResult) -> Self {
+        EwmaResult {
+            ewma: record.ewma,
+            ucl: record.ucl,
+            lcl: record.lcl,
+            signal: record.signal(),
+            index: record.index,
+        }
     }
 }
 
@@ -159,7 +213,8 @@ impl Ewma {
     /// If there are more than [`MAX_READINGS`](crate::MAX_READINGS) readings.
     #[track_caller]
     pub fn analyze(&self, data: &[f64]) -> Vec<EwmaResult> {
-        expected(self.0.analyze(data))
+        let records = expected(self.0.analyze(data));
+        records.into_iter().map(EwmaResult::of).collect()
     }
 
     /// The indices of the readings that signal, lowest first.

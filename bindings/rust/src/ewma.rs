@@ -2,7 +2,7 @@
 
 use crate::lent::{self, EwmaAreas, EwmaSettings};
 use crate::refusal::counted;
-use crate::{Refusal, MAX_READINGS};
+use crate::{Refusal, Side, MAX_READINGS};
 
 /// What an EWMA chart makes of one reading.
 #[derive(Clone, Debug, PartialEq)]
@@ -13,21 +13,29 @@ pub struct EwmaResult {
     pub ucl: f64,
     /// The lower limit at this reading.
     pub lcl: f64,
-    /// Whether the statistic is outside the limits. A reading that is not finite carries it on, without a
-    /// signal.
-    pub signal: bool,
+    /// Which limit the statistic is outside of, never both. A reading that is not finite carries the statistic
+    /// on, and its side is none.
+    pub side: Side,
     /// The index of the reading, from 0.
     pub index: usize,
+}
+
+impl EwmaResult {
+    /// Whether the reading signals, on whichever side.
+    pub fn signal(&self) -> bool {
+        self.side.signals()
+    }
 }
 
 /// An EWMA chart, which signals small shifts of the mean by a moving average.
 ///
 /// ```
-/// use overbrindle::{Ewma, Refusal};
+/// use overbrindle::{Ewma, Refusal, Side};
 ///
 /// let chart = Ewma::with_params(0.0, 1.0, 1.0, 3.0)?;
 /// let records = chart.analyze(&[3.0, 3.5])?;
 /// assert_eq!((records[0].lcl, records[0].ucl), (-3.0, 3.0));
+/// assert_eq!((records[0].side, records[1].side), (Side::None, Side::Above));
 /// assert_eq!(chart.signal_points(&[3.0, 3.5])?, [1]);
 /// # Ok::<(), Refusal>(())
 /// ```
@@ -64,12 +72,12 @@ impl Ewma {
         // More readings are refused before the room is looked at.
         let n = data.len().min(MAX_READINGS);
         let (mut ewma, mut ucl, mut lcl) = (vec![0.0; n], vec![0.0; n], vec![0.0; n]);
-        let (mut signal, mut index) = (vec![0; n], vec![0; n]);
+        let (mut side, mut index) = (vec![0; n], vec![0; n]);
         let areas = EwmaAreas {
             ewma: &mut ewma,
             ucl: &mut ucl,
             lcl: &mut lcl,
-            signal: &mut signal,
+            side: &mut side,
             index: &mut index,
         };
         let count = counted(lent::ewma_analyze(self.0, data, areas))?;
@@ -77,7 +85,7 @@ impl Ewma {
             ewma: ewma[i],
             ucl: ucl[i],
             lcl: lcl[i],
-            signal: signal[i] != 0,
+            side: Side::of(side[i]),
             index: index[i],
         };
         Ok((0..count).map(record).collect())

@@ -172,8 +172,8 @@ pub struct CusumAreas<'a> {
     pub s_upper: &'a mut [f64],
     /// The lower sums.
     pub s_lower: &'a mut [f64],
-    /// 1 for a signal, else 0.
-    pub signal: &'a mut [u8],
+    /// The sides: 0 for none, 1 where the upper sum is above h, 2 where the lower sum is, 3 where both are.
+    pub side: &'a mut [u8],
     /// The readings' indices, from 0.
     pub index: &'a mut [usize],
 }
@@ -189,7 +189,7 @@ pub fn cusum_analyze(settings: CusumSettings, data: &[f64], areas: CusumAreas) -
     let CusumAreas {
         s_upper,
         s_lower,
-        signal,
+        side,
         index,
     } = areas;
     let mut count = UNWRITTEN;
@@ -197,7 +197,7 @@ pub fn cusum_analyze(settings: CusumSettings, data: &[f64], areas: CusumAreas) -
         c::overbrindle_cusum_analyze;
         target, sigma, k, h;
         data;
-        s_upper, s_lower, signal, index;
+        s_upper, s_lower, side, index;
         &mut count
     );
     (number, count)
@@ -224,8 +224,8 @@ pub fn cusum_signal_points(
 }
 
 /// The number of the refusal, or 0, and the reading, from 1, at which the level is heard, 0 where it is
-/// not. The side is 0 for the upper sum and 1 for the lower; any other is refusal 10.
-pub fn cusum_run_length(settings: CusumSettings, level: f64, side: u32) -> (u32, usize) {
+/// not. The sum is 0 for the upper and 1 for the lower; any other is refusal 10.
+pub fn cusum_run_length(settings: CusumSettings, level: f64, sum: u32) -> (u32, usize) {
     let CusumSettings {
         target,
         sigma,
@@ -233,7 +233,7 @@ pub fn cusum_run_length(settings: CusumSettings, level: f64, side: u32) -> (u32,
         h,
     } = settings;
     let mut reading = UNWRITTEN;
-    let number = c::overbrindle_cusum_run_length(target, sigma, k, h, level, side, &mut reading);
+    let number = c::overbrindle_cusum_run_length(target, sigma, k, h, level, sum, &mut reading);
     (number, reading)
 }
 
@@ -259,8 +259,8 @@ pub struct EwmaAreas<'a> {
     pub ucl: &'a mut [f64],
     /// The lower limits.
     pub lcl: &'a mut [f64],
-    /// 1 for a signal, else 0.
-    pub signal: &'a mut [u8],
+    /// The sides: 0 for none, 1 where the statistic is above the upper limit, 2 where it is below the lower.
+    pub side: &'a mut [u8],
     /// The readings' indices, from 0.
     pub index: &'a mut [usize],
 }
@@ -277,7 +277,7 @@ pub fn ewma_analyze(settings: EwmaSettings, data: &[f64], areas: EwmaAreas) -> (
         ewma,
         ucl,
         lcl,
-        signal,
+        side,
         index,
     } = areas;
     let mut count = UNWRITTEN;
@@ -285,7 +285,7 @@ pub fn ewma_analyze(settings: EwmaSettings, data: &[f64], areas: EwmaAreas) -> (
         c::overbrindle_ewma_analyze;
         target, sigma, lambda, l_factor;
         data;
-        ewma, ucl, lcl, signal, index;
+        ewma, ucl, lcl, side, index;
         &mut count
     );
     (number, count)

@@ -42,13 +42,15 @@ pub mod lent;
 mod measures;
 mod pelt;
 mod refusal;
+mod side;
 
-pub use cusum::{Cusum, CusumResult, Side};
+pub use cusum::{Cusum, CusumResult, Sum};
 pub use elementary::{ln, powi, sqrt};
 pub use ewma::{Ewma, EwmaResult};
 pub use measures::{noise_variance, piece_summary, PieceSummary};
 pub use pelt::{CostFunction, MultiPeltResult, Pelt, PeltResult, Penalty};
 pub use refusal::Refusal;
+pub use side::Side;
 
 /// The most channels that a search takes: more are [`Refusal::Channels`].
 pub const MAX_CHANNELS: usize = 8;

@@ -3,7 +3,7 @@
 
 use overbrindle as u_analytics;
 use std::panic::{catch_unwind, AssertUnwindSafe};
-use u_analytics::detection::{CostFunction, Cusum, Ewma, Pelt, Penalty};
+use u_analytics::detection::{CostFunction, Cusum, CusumResult, Ewma, EwmaResult, Pelt, Penalty};
 
 #[test]
 fn a_shift() {
@@ -92,6 +92,54 @@ fn an_ewma_with_a_shift() {
     data.extend(vec![55.0; 10]); // large shift
     let signals = ewma.signal_points(&data);
     assert!(!signals.is_empty()); // shift detected
+}
+
+/// The records have the fields of u-analytics and no other: one more would break a program that takes them
+/// apart.
+#[test]
+fn a_cusum_record_says_whether_it_signals() {
+    let cusum = Cusum::new(0.0, 1.0).unwrap();
+    let fields = |record: CusumResult| {
+        let CusumResult {
+            s_upper,
+            s_lower,
+            signal,
+            index,
+        } = record;
+        (s_upper, s_lower, signal, index)
+    };
+    let records = cusum.analyze(&[20.0, -10.0, -10.0, f64::NAN]);
+    let told: Vec<_> = records.into_iter().map(fields).collect();
+    let due = [
+        (19.5, 0.0, true, 0),
+        (9.0, 9.5, true, 1),
+        (0.0, 19.0, true, 2),
+        (0.0, 19.0, false, 3),
+    ];
+    assert_eq!(told, due);
+}
+
+#[test]
+fn an_ewma_record_says_whether_it_signals() {
+    let ewma = Ewma::with_params(0.0, 1.0, 1.0, 3.0).unwrap();
+    let fields = |record: EwmaResult| {
+        let EwmaResult {
+            ewma,
+            ucl,
+            lcl,
+            signal,
+            index,
+        } = record;
+        (ewma, ucl, lcl, signal, index)
+    };
+    let records = ewma.analyze(&[3.5, -3.5, 3.0]);
+    let told: Vec<_> = records.into_iter().map(fields).collect();
+    let due = [
+        (3.5, 3.0, -3.0, true, 0),
+        (-3.5, 3.0, -3.0, true, 1),
+        (3.0, 3.0, -3.0, false, 2),
+    ];
+    assert_eq!(told, due);
 }
 
 #[test]

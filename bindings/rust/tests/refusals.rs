@@ -1,6 +1,6 @@
 //! Every refusal that the package gives, and what it says.
 
-use overbrindle::{piece_summary, CostFunction, Cusum, Ewma, Pelt, Penalty, Refusal, Side};
+use overbrindle::{piece_summary, CostFunction, Cusum, Ewma, Pelt, Penalty, Refusal, Sum};
 use overbrindle::{MAX_CHANNELS, MAX_READINGS};
 use std::error::Error;
 
@@ -88,7 +88,7 @@ fn a_gap() {
 #[test]
 fn a_level() {
     let chart = Cusum::new(0.0, 1.0).unwrap();
-    let refusal = chart.run_length(f64::NAN, Side::Lower).unwrap_err();
+    let refusal = chart.run_length(f64::NAN, Sum::Lower).unwrap_err();
     assert_eq!((refusal.number(), refusal.place()), (8, Some((0, 0))));
 }
 
@@ -154,7 +154,7 @@ fn those_of_lent_room_speak_too() {
         ),
         (
             Refusal::Form,
-            "refusal 10: a number stands for no cost, penalty or side",
+            "refusal 10: a number stands for no cost, penalty or sum",
         ),
         (
             Refusal::Other(13),

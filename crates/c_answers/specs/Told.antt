@@ -12,8 +12,8 @@ use Rattle.refusals.specs.Said.{Said, refused, answered, refusing, said}
 use Rattle.refusals.specs.declared.Refusal.the-variants as Refusal
 use Rattle.refusals.specs.declared.Answer.{Answer}
 use Rattle.cusum.specs.declared.Cusum.{Cusum}
-use Rattle.cusum.specs.declared.Side.{Side}
-use Rattle.cusum.specs.declared.Side.the-variants as Side
+use Rattle.charts.specs.declared.Sum.{Sum}
+use Rattle.charts.specs.declared.Sum.the-variants.{Upper, Lower}
 use Rattle.cusum.specs.RunLength.{runLength}
 use Rattle.piece.specs.declared.Summarised.{Summarised}
 use Rattle.piece.specs.declared.Summarised.the-variants as Summarised
@@ -49,13 +49,13 @@ unfoldable pub pieceOf : Summarised → ToldPiece
 pieceOf (Summarised.Piece p) = pieceAs 0 (p .length) (p .mean) (p .spread)
 pieceOf (Summarised.Refused r) = pieceAs (stated r .number) 0 +0 +0
 
--- the side that the number `side` stands for: 0 is the upper, 1 the lower
-unfoldable pub sideOf : ℕ → Side
-sideOf side = cond (eqb side 0) Side.Upper Side.Lower
+-- the sum that the number `asked` stands for: 0 is the upper, 1 the lower
+unfoldable pub askedSum : ℕ → Sum
+askedSum asked = cond (eqb asked 0) Upper Lower
 
--- 10 where `side` is any other number, and then what the run length of `level` says
+-- 10 where `asked` is any other number, and then what the run length of `level` says
 unfoldable pub runLengthOf : Cusum → Float → ℕ → Said
-runLengthOf c level side = tried refusing ((not (ltb side 2), Refusal.Form) ∷ []) (runLength c level (sideOf side))
+runLengthOf c level asked = tried refusing ((not (ltb asked 2), Refusal.Form) ∷ []) (runLength c level (askedSum asked))
 
 -- what a call answers and leaves in its lent slice, with the answer told in numbers
 abbrev pub toldLeft : {A : Type 0} → Answer × List A → Counted × List A

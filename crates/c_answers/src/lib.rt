@@ -3,19 +3,19 @@
 //
 // No function asks anything of its caller. `specs/Told` has what is told of each answer, by what it
 // says in the rules' numbers. A run length, which is numbers alone, is asked here too.
-mod sides;
+mod sums;
 
 ghost use mathlib.Core.Path.{_≡_};
 ghost use mathlib.Core.List.{[], _∷_};
 ghost use Rattle.refusals.specs.Stated.{stated};
 ghost use Rattle.refusals.specs.Said.{answered, refusing, said};
-ghost use Rattle.cusum.specs.RunLength.{heardAs};
+ghost use Rattle.charts.specs.Hearing.{heardAs};
 ghost use Rattle.c_answers.specs.Told.{toldOf, briefly, countedOf, pieceOf};
-use cusum::Heard;
+use charts::Heard;
 use piece::Summarised;
 use refusals::Answer;
 use refusals::Refusal;
-pub use sides::run_length;
+pub use sums::run_length;
 
 // An answer that says at most one whole number: `number` is 0 or the refusal's, `count` that whole
 // number, and `channel` and `index` are those of the reading that refusal 8 names.

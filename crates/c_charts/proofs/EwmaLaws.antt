@@ -19,35 +19,35 @@ use Rattle.ewma.specs.Chart.{testsOf, records, fresh, itself, nextRecord}
 use Rattle.c_answers.specs.declared.Counted.{Counted}
 use Rattle.c_answers.specs.Told.{countedOf}
 use Rattle.c_charts.specs.Columns.{shorter}
-use Rattle.c_charts.specs.EwmaColumns.{ewmaArrays, ewmaOf, uclOf, lclOf, signalOf, indexOf, roomOf}
+use Rattle.c_charts.specs.EwmaColumns.{ewmaArrays, ewmaOf, uclOf, lclOf, sideByte, indexOf, roomOf}
 use Rattle.c_charts.proofs.Lengths.{shorter-least, shortest-least}
 
 -- each array has, for each of the first `n` readings of `xs`, that field of the record that `analyze` writes
-pub record Filled (c : Ewma) (xs : List Float) (n : ℕ) (ewma ewma′ ucl ucl′ lcl lcl′ : List Float) (signal signal′ index index′ : List ℕ) : Type 0 where
+pub record Filled (c : Ewma) (xs : List Float) (n : ℕ) (ewma ewma′ ucl ucl′ lcl lcl′ : List Float) (side side′ index index′ : List ℕ) : Type 0 where
   pub ewma-left : ewma′ ≡ column ewmaOf (records c xs n) ewma
   pub ucl-left : ucl′ ≡ column uclOf (records c xs n) ucl
   pub lcl-left : lcl′ ≡ column lclOf (records c xs n) lcl
-  pub signal-left : signal′ ≡ column signalOf (records c xs n) signal
+  pub side-left : side′ ≡ column sideByte (records c xs n) side
   pub index-left : index′ ≡ column indexOf (records c xs n) index
 
 -- every array has room for `n` records
-pub record Room (n : ℕ) (ewma ucl lcl : List Float) (signal index : List ℕ) : Type 0 where
+pub record Room (n : ℕ) (ewma ucl lcl : List Float) (side index : List ℕ) : Type 0 where
   pub ewma-room : n ≤ length ewma
   pub ucl-room : n ≤ length ucl
   pub lcl-room : n ≤ length lcl
-  pub signal-room : n ≤ length signal
+  pub side-room : n ≤ length side
   pub index-room : n ≤ length index
 
 -- the records that are written have room
-pub written-room : (ts : List (Bool × Refusal)) (n : ℕ) (ewma ucl lcl : List Float) (signal index : List ℕ) → let k = countOf (admittedAs ts n (roomOf ewma ucl lcl signal index)) in (k ≤ n) × Room k ewma ucl lcl signal index
-written-room ts n ewma ucl lcl signal index =
-    let k = within-both ts n (roomOf ewma ucl lcl signal index) in
+pub written-room : (ts : List (Bool × Refusal)) (n : ℕ) (ewma ucl lcl : List Float) (side index : List ℕ) → let k = countOf (admittedAs ts n (roomOf ewma ucl lcl side index)) in (k ≤ n) × Room k ewma ucl lcl side index
+written-room ts n ewma ucl lcl side index =
+    let k = within-both ts n (roomOf ewma ucl lcl side index) in
     let h = shorter-least (length ewma) (length ucl) in
-    let s = shortest-least (shorter (length ewma) (length ucl)) (length lcl) (length signal) (length index) in
-    (k .0, record { ewma-room = omega (arith, k .1, s .0, h .0); ucl-room = omega (arith, k .1, s .0, h .1); lcl-room = omega (arith, k .1, s .1); signal-room = omega (arith, k .1, s .2); index-room = omega (arith, k .1, s .3) })
+    let s = shortest-least (shorter (length ewma) (length ucl)) (length lcl) (length side) (length index) in
+    (k .0, record { ewma-room = omega (arith, k .1, s .0, h .0); ucl-room = omega (arith, k .1, s .0, h .1); lcl-room = omega (arith, k .1, s .1); side-room = omega (arith, k .1, s .2); index-room = omega (arith, k .1, s .3) })
 
-module _ {c : Ewma} {xs : List Float} {n i : ℕ} {ewma ewma′ ucl ucl′ lcl lcl′ : List Float} {signal signal′ index index′ : List ℕ} {s : EwmaResult}
-    (room : Room n ewma ucl lcl signal index) (g : Going itself fresh nextRecord c xs n s i) (f : Filled c xs i ewma ewma′ ucl ucl′ lcl lcl′ signal signal′ index index′) where
+module _ {c : Ewma} {xs : List Float} {n i : ℕ} {ewma ewma′ ucl ucl′ lcl lcl′ : List Float} {side side′ index index′ : List ℕ} {s : EwmaResult}
+    (room : Room n ewma ucl lcl side index) (g : Going itself fresh nextRecord c xs n s i) (f : Filled c xs i ewma ewma′ ucl ucl′ lcl lcl′ side side′ index index′) where
   pub ewma-length : length ewma′ ≡ length ewma
   ewma-length = filled-length itself fresh nextRecord c xs n ewmaOf i ewma ewma′ (g .within) (room .ewma-room) (f .ewma-left)
 
@@ -57,36 +57,36 @@ module _ {c : Ewma} {xs : List Float} {n i : ℕ} {ewma ewma′ ucl ucl′ lcl l
   pub lcl-length : length lcl′ ≡ length lcl
   lcl-length = filled-length itself fresh nextRecord c xs n lclOf i lcl lcl′ (g .within) (room .lcl-room) (f .lcl-left)
 
-  pub signal-length : length signal′ ≡ length signal
-  signal-length = filled-length itself fresh nextRecord c xs n signalOf i signal signal′ (g .within) (room .signal-room) (f .signal-left)
+  pub side-length : length side′ ≡ length side
+  side-length = filled-length itself fresh nextRecord c xs n sideByte i side side′ (g .within) (room .side-room) (f .side-left)
 
   pub index-length : length index′ ≡ length index
   index-length = filled-length itself fresh nextRecord c xs n indexOf i index index′ (g .within) (room .index-room) (f .index-left)
 
-  pub all-done : n ≤ i → Filled c xs n ewma ewma′ ucl ucl′ lcl lcl′ signal signal′ index index′
+  pub all-done : n ≤ i → Filled c xs n ewma ewma′ ucl ucl′ lcl lcl′ side side′ index index′
   all-done h =
       record {
         ewma-left = all-filled itself fresh nextRecord c xs n ewmaOf ewma ewma′ s i g h (f .ewma-left);
         ucl-left = all-filled itself fresh nextRecord c xs n uclOf ucl ucl′ s i g h (f .ucl-left);
         lcl-left = all-filled itself fresh nextRecord c xs n lclOf lcl lcl′ s i g h (f .lcl-left);
-        signal-left = all-filled itself fresh nextRecord c xs n signalOf signal signal′ s i g h (f .signal-left);
+        side-left = all-filled itself fresh nextRecord c xs n sideByte side side′ s i g h (f .side-left);
         index-left = all-filled itself fresh nextRecord c xs n indexOf index index′ s i g h (f .index-left);
       }
 
   pub one-more : (readings : n ≤ length xs) (below : i < n) (s′ : EwmaResult) → s′ ≡ following nextRecord c xs i s
-      → Going itself fresh nextRecord c xs n s′ (i + 1) × Filled c xs (i + 1) ewma (set ewma′ i (ewmaOf s′)) ucl (set ucl′ i (uclOf s′)) lcl (set lcl′ i (lclOf s′)) signal (set signal′ i (signalOf s′)) index (set index′ i (indexOf s′))
+      → Going itself fresh nextRecord c xs n s′ (i + 1) × Filled c xs (i + 1) ewma (set ewma′ i (ewmaOf s′)) ucl (set ucl′ i (uclOf s′)) lcl (set lcl′ i (lclOf s′)) side (set side′ i (sideByte s′)) index (set index′ i (indexOf s′))
   one-more readings below s′ e = (
     one-gone itself fresh nextRecord c xs n s i g s′ readings below e,
     record {
       ewma-left = one-filled itself fresh nextRecord c xs n s i g s′ readings below e ewmaOf nan ewma ewma′ (room .ewma-room) (f .ewma-left);
       ucl-left = one-filled itself fresh nextRecord c xs n s i g s′ readings below e uclOf nan ucl ucl′ (room .ucl-room) (f .ucl-left);
       lcl-left = one-filled itself fresh nextRecord c xs n s i g s′ readings below e lclOf nan lcl lcl′ (room .lcl-room) (f .lcl-left);
-      signal-left = one-filled itself fresh nextRecord c xs n s i g s′ readings below e signalOf 0 signal signal′ (room .signal-room) (f .signal-left);
+      side-left = one-filled itself fresh nextRecord c xs n s i g s′ readings below e sideByte 0 side side′ (room .side-room) (f .side-left);
       index-left = one-filled itself fresh nextRecord c xs n s i g s′ readings below e indexOf 0 index index′ (room .index-room) (f .index-left);
     },
   )
 
 -- the arrays so filled, and what is told of the answer, are the outcome
-pub arrays-are : {c : Ewma} {xs : List Float} {ewma ewma′ : List Float} {ucl ucl′ : List Float} {lcl lcl′ : List Float} {signal signal′ : List ℕ} {index index′ : List ℕ} (t : Counted) → let answer = admittedAs (testsOf c) (length xs) (roomOf ewma ucl lcl signal index) in t ≡ countedOf (said answer) → Filled c xs (countOf answer) ewma ewma′ ucl ucl′ lcl lcl′ signal signal′ index index′
-    → _≡_ {A = Counted × List Float × List Float × List Float × List ℕ × List ℕ} (t, ewma′, ucl′, lcl′, signal′, index′) (ewmaArrays c xs ewma ucl lcl signal index)
-arrays-are t e f = rw (e, f .ewma-left, f .ucl-left, f .lcl-left, f .signal-left, f .index-left) refl
+pub arrays-are : {c : Ewma} {xs : List Float} {ewma ewma′ : List Float} {ucl ucl′ : List Float} {lcl lcl′ : List Float} {side side′ : List ℕ} {index index′ : List ℕ} (t : Counted) → let answer = admittedAs (testsOf c) (length xs) (roomOf ewma ucl lcl side index) in t ≡ countedOf (said answer) → Filled c xs (countOf answer) ewma ewma′ ucl ucl′ lcl lcl′ side side′ index index′
+    → _≡_ {A = Counted × List Float × List Float × List Float × List ℕ × List ℕ} (t, ewma′, ucl′, lcl′, side′, index′) (ewmaArrays c xs ewma ucl lcl side index)
+arrays-are t e f = rw (e, f .ewma-left, f .ucl-left, f .lcl-left, f .side-left, f .index-left) refl

@@ -24,7 +24,7 @@ use Rattle.cusum.specs.declared.Cusum.{Cusum}
 use Rattle.ewma.specs.Chart as Ewma
 use Rattle.ewma.specs.declared.Ewma.{Ewma}
 use Rattle.c_answers.specs.declared.Counted.{Counted}
-use Rattle.c_answers.specs.Told.{toldOf, countedAs, countedOf, sideOf, runLengthOf, toldLeft}
+use Rattle.c_answers.specs.Told.{toldOf, countedAs, countedOf, askedSum, runLengthOf, toldLeft}
 use Rattle.c_answers.proofs.ReadBack.{number-told}
 use Rattle.c_charts.specs.CusumColumns as CusumColumns
 use Rattle.c_charts.specs.EwmaColumns as EwmaColumns
@@ -41,17 +41,17 @@ chart-names : (s : InRange) (n room count number k : ℕ) → 0 < number → cou
 chart-names s n room count number k h e = told-names s (sizeTests n room) (omega arith, (omega arith, tt)) (count ∷ []) number k h (e ∙ ap countedOf (answer-said (settingTests s) n room count))
 
 -- ---- of the arrays
-pub cusum-arrays-name : (c : Cusum) (xs upper lower upper′ lower′ : List Float) (signal index signal′ index′ : List ℕ) (number count : ℕ) → 0 < number
-    → _≡_ {A = Counted × List Float × List Float × List ℕ × List ℕ} (countedAs number count, upper′, lower′, signal′, index′) (CusumColumns.cusumArrays c xs upper lower signal index) → NamedBy (Cusum.inRange c) number
+pub cusum-arrays-name : (c : Cusum) (xs upper lower upper′ lower′ : List Float) (side index side′ index′ : List ℕ) (number count : ℕ) → 0 < number
+    → _≡_ {A = Counted × List Float × List Float × List ℕ × List ℕ} (countedAs number count, upper′, lower′, side′, index′) (CusumColumns.cusumArrays c xs upper lower side index) → NamedBy (Cusum.inRange c) number
 unfolding Cusum.testsOf
-cusum-arrays-name c xs upper lower upper′ lower′ signal index signal′ index′ number count h e =
-    chart-names (Cusum.inRange c) (length xs) (CusumColumns.roomOf upper lower signal index) (length xs) number count h (ap (λ (o : Counted × List Float × List Float × List ℕ × List ℕ). o .0) e)
+cusum-arrays-name c xs upper lower upper′ lower′ side index side′ index′ number count h e =
+    chart-names (Cusum.inRange c) (length xs) (CusumColumns.roomOf upper lower side index) (length xs) number count h (ap (λ (o : Counted × List Float × List Float × List ℕ × List ℕ). o .0) e)
 
-pub ewma-arrays-name : (c : Ewma) (xs ewma ucl lcl ewma′ ucl′ lcl′ : List Float) (signal index signal′ index′ : List ℕ) (number count : ℕ) → 0 < number
-    → _≡_ {A = Counted × List Float × List Float × List Float × List ℕ × List ℕ} (countedAs number count, ewma′, ucl′, lcl′, signal′, index′) (EwmaColumns.ewmaArrays c xs ewma ucl lcl signal index) → NamedBy (Ewma.inRange c) number
+pub ewma-arrays-name : (c : Ewma) (xs ewma ucl lcl ewma′ ucl′ lcl′ : List Float) (side index side′ index′ : List ℕ) (number count : ℕ) → 0 < number
+    → _≡_ {A = Counted × List Float × List Float × List Float × List ℕ × List ℕ} (countedAs number count, ewma′, ucl′, lcl′, side′, index′) (EwmaColumns.ewmaArrays c xs ewma ucl lcl side index) → NamedBy (Ewma.inRange c) number
 unfolding Ewma.testsOf
-ewma-arrays-name c xs ewma ucl lcl ewma′ ucl′ lcl′ signal index signal′ index′ number count h e =
-    chart-names (Ewma.inRange c) (length xs) (EwmaColumns.roomOf ewma ucl lcl signal index) (length xs) number count h (ap (λ (o : Counted × List Float × List Float × List Float × List ℕ × List ℕ). o .0) e)
+ewma-arrays-name c xs ewma ucl lcl ewma′ ucl′ lcl′ side index side′ index′ number count h e =
+    chart-names (Ewma.inRange c) (length xs) (EwmaColumns.roomOf ewma ucl lcl side index) (length xs) number count h (ap (λ (o : Counted × List Float × List Float × List Float × List ℕ × List ℕ). o .0) e)
 
 -- ---- of the indices that signal
 pub cusum-points-name : (c : Cusum) (xs : List Float) (entry exit : List ℕ) (number count : ℕ) → 0 < number → _≡_ {A = Counted × List ℕ} (countedAs number count, exit) (toldLeft (Cusum.signalled c xs entry)) → NamedBy (Cusum.inRange c) number
@@ -62,14 +62,14 @@ pub ewma-points-name : (c : Ewma) (xs : List Float) (entry exit : List ℕ) (num
 unfolding Ewma.testsOf
 ewma-points-name c xs entry exit number count h e = chart-names (Ewma.inRange c) (length xs) (length entry) (length (Ewma.signalling c xs (length xs))) number count h (ap (λ (o : Counted × List ℕ). o .0) e)
 
--- ---- of the run length, where the number is not that of a side that there is not
-pub run-length-names : (c : Cusum) (v : Float) (side number reading : ℕ) → 0 < number → (number ≡ 10 → ⊥) → countedAs number reading ≡ countedOf (runLengthOf c v side) → NamedBy (Cusum.inRange c) number
+-- ---- of the run length, where the number is not 10, which comes before the settings
+pub run-length-names : (c : Cusum) (v : Float) (asked number reading : ℕ) → 0 < number → (number ≡ 10 → ⊥) → countedAs number reading ≡ countedOf (runLengthOf c v asked) → NamedBy (Cusum.inRange c) number
 unfolding runLengthOf runLength tried toldOf Cusum.testsOf
-run-length-names c v side number reading h other e = go (ltb side 2) e
+run-length-names c v asked number reading h other e = go (ltb asked 2) e
   where
     level : List (Bool × Refusal)
     level = (not (finite v), Refusal.NonFinite 0 0) ∷ []
 
-    go : (known : Bool) → countedAs number reading ≡ countedOf (cond (not known) (refusing Refusal.Form) (tried refusing (settingTests (Cusum.inRange c) ++ level) (answered (heard c v (sideOf side))))) → NamedBy (Cusum.inRange c) number
-    go true e = told-names (Cusum.inRange c) level (omega arith, tt) (heard c v (sideOf side)) number reading h e
+    go : (known : Bool) → countedAs number reading ≡ countedOf (cond (not known) (refusing Refusal.Form) (tried refusing (settingTests (Cusum.inRange c) ++ level) (answered (heard c v (askedSum asked))))) → NamedBy (Cusum.inRange c) number
+    go true e = told-names (Cusum.inRange c) level (omega arith, tt) (heard c v (askedSum asked)) number reading h e
     go false e = absurd (other (ap (λ (t : Counted). t .number) e))

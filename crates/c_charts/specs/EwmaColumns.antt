@@ -7,12 +7,13 @@ use Rattle.refusals.specs.Tried.{countOf}
 use Rattle.refusals.specs.Said.{said}
 use Rattle.charts.specs.Runs.{column}
 use Rattle.charts.specs.Answers.{admittedAs}
+use Rattle.charts.specs.Sides.{sideNumber}
 use Rattle.ewma.specs.declared.Ewma.{Ewma}
 use Rattle.ewma.specs.declared.EwmaResult.{EwmaResult}
 use Rattle.ewma.specs.Chart.{testsOf, records}
 use Rattle.c_answers.specs.declared.Counted.{Counted}
 use Rattle.c_answers.specs.Told.{countedOf}
-use Rattle.c_charts.specs.Columns.{shorter, shortest, flag}
+use Rattle.c_charts.specs.Columns.{shorter, shortest}
 
 -- the fields of a record, in their order
 abbrev pub ewmaOf : EwmaResult → Float
@@ -24,19 +25,19 @@ uclOf r = r .ucl
 abbrev pub lclOf : EwmaResult → Float
 lclOf r = r .lcl
 
-abbrev pub signalOf : EwmaResult → ℕ
-signalOf r = flag (r .signal)
+abbrev pub sideByte : EwmaResult → ℕ
+sideByte r = sideNumber (r .side)
 
 abbrev pub indexOf : EwmaResult → ℕ
 indexOf r = r .index .0
 
 -- the room of the five arrays is that of the shortest
 abbrev pub roomOf : List Float → List Float → List Float → List ℕ → List ℕ → ℕ
-roomOf ewma ucl lcl signal index = shortest (shorter (length ewma) (length ucl)) (length lcl) (length signal) (length index)
+roomOf ewma ucl lcl side index = shortest (shorter (length ewma) (length ucl)) (length lcl) (length side) (length index)
 
 -- what `ewma_analyze` tells and leaves: each array has, in front, that field of the records that `analyze` writes
 abbrev pub ewmaArrays : Ewma → List Float → List Float → List Float → List Float → List ℕ → List ℕ → Counted × List Float × List Float × List Float × List ℕ × List ℕ
-ewmaArrays c xs ewma ucl lcl signal index =
-    let answer = admittedAs (testsOf c) (length xs) (roomOf ewma ucl lcl signal index) in
+ewmaArrays c xs ewma ucl lcl side index =
+    let answer = admittedAs (testsOf c) (length xs) (roomOf ewma ucl lcl side index) in
     let shown = records c xs (countOf answer) in
-    (countedOf (said answer), column ewmaOf shown ewma, column uclOf shown ucl, column lclOf shown lcl, column signalOf shown signal, column indexOf shown index)
+    (countedOf (said answer), column ewmaOf shown ewma, column uclOf shown ucl, column lclOf shown lcl, column sideByte shown side, column indexOf shown index)

@@ -1,25 +1,24 @@
 // The records of a CUSUM chart, an array for each field.
 ghost use mathlib.Core.Path.{_≡_};
 ghost use Rattle.c_charts.specs.CusumColumns.{cusumArrays};
-use crate::flag;
 use crate::shortest;
 use c_answers::Counted;
 use cusum::Cusum;
 
-// Writes, for each reading of `data`, both sums to `s_upper` and `s_lower`, to `signal` 1 where one
-// signals and 0 where none does, and the reading's index to `index`; the rest of each array is left.
-// Cost: one step for each reading.
+// Writes, for each reading of `data`, both sums to `s_upper` and `s_lower`, the number of its side to
+// `side`, and the reading's index to `index`; the rest of each array is left. Cost: one step for each
+// reading.
 pub fn cusum_analyze(
     chart: Cusum,
     data: &[f64],
     s_upper: &mut [f64],
     s_lower: &mut [f64],
-    signal: &mut [u8],
+    side: &mut [u8],
     index: &mut [usize],
 ) -> Counted
-    ensures { λ r. ⌜ (r, now («s_upper» .exit), now («s_lower» .exit), now (signal .exit), now (index .exit)) ≡ cusumArrays chart (now («data» .entry)) (now («s_upper» .entry)) (now («s_lower» .entry)) (now (signal .entry)) (now (index .entry)) ⌝ }
+    ensures { λ r. ⌜ (r, now («s_upper» .exit), now («s_lower» .exit), now (side .exit), now (index .exit)) ≡ cusumArrays chart (now («data» .entry)) (now («s_upper» .entry)) (now («s_lower» .entry)) (now (side .entry)) (now (index .entry)) ⌝ }
 {
-    let room = shortest(s_upper.len(), s_lower.len(), signal.len(), index.len());
+    let room = shortest(s_upper.len(), s_lower.len(), side.len(), index.len());
     let answer = cusum::judge(chart, data.len(), room);
     let n = charts::count(answer);
     let mut state = cusum::start(chart);
@@ -28,9 +27,10 @@ pub fn cusum_analyze(
         state = cusum::following(chart, data, i, state);
         let shown = state.shown;
         let at = shown.index;
+        let on = shown.side;
         s_upper[i] = shown.s_upper;
         s_lower[i] = shown.s_lower;
-        signal[i] = flag(shown.signal);
+        side[i] = charts::side_number(on);
         index[i] = at.0;
         i += 1;
     }

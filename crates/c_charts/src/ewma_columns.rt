@@ -1,30 +1,29 @@
 // The records of an EWMA chart, an array for each field.
 ghost use mathlib.Core.Path.{_≡_};
 ghost use Rattle.c_charts.specs.EwmaColumns.{ewmaArrays};
-use crate::flag;
 use crate::shorter;
 use crate::shortest;
 use c_answers::Counted;
 use ewma::Ewma;
 
-// Writes, for each reading of `data`, the statistic to `ewma`, the limits to `ucl` and `lcl`, to
-// `signal` 1 where it signals and 0 where it does not, and the reading's index to `index`; the rest of
-// each array is left. Cost: one step for each reading.
+// Writes, for each reading of `data`, the statistic to `ewma`, the limits to `ucl` and `lcl`, the number
+// of its side to `side`, and the reading's index to `index`; the rest of each array is left. Cost: one
+// step for each reading.
 pub fn ewma_analyze(
     chart: Ewma,
     data: &[f64],
     ewma: &mut [f64],
     ucl: &mut [f64],
     lcl: &mut [f64],
-    signal: &mut [u8],
+    side: &mut [u8],
     index: &mut [usize],
 ) -> Counted
-    ensures { λ r. ⌜ (r, now (ewma .exit), now (ucl .exit), now (lcl .exit), now (signal .exit), now (index .exit)) ≡ ewmaArrays chart (now («data» .entry)) (now (ewma .entry)) (now (ucl .entry)) (now (lcl .entry)) (now (signal .entry)) (now (index .entry)) ⌝ }
+    ensures { λ r. ⌜ (r, now (ewma .exit), now (ucl .exit), now (lcl .exit), now (side .exit), now (index .exit)) ≡ ewmaArrays chart (now («data» .entry)) (now (ewma .entry)) (now (ucl .entry)) (now (lcl .entry)) (now (side .entry)) (now (index .entry)) ⌝ }
 {
     let room = shortest(
         shorter(ewma.len(), ucl.len()),
         lcl.len(),
-        signal.len(),
+        side.len(),
         index.len(),
     );
     let answer = ewma::judge(chart, data.len(), room);
@@ -35,10 +34,11 @@ pub fn ewma_analyze(
         state = ewma::following(chart, data, i, state);
         let shown = state.shown;
         let at = shown.index;
+        let on = shown.side;
         ewma[i] = shown.ewma;
         ucl[i] = shown.ucl;
         lcl[i] = shown.lcl;
-        signal[i] = flag(shown.signal);
+        side[i] = charts::side_number(on);
         index[i] = at.0;
         i += 1;
     }

@@ -8,7 +8,7 @@ mod cusum_columns;
 mod ewma_columns;
 
 ghost use mathlib.Core.Path.{_≡_};
-ghost use Rattle.c_charts.specs.Columns.{shorter, shortest, flag};
+ghost use Rattle.c_charts.specs.Columns.{shorter, shortest};
 pub use cusum_columns::cusum_analyze;
 pub use ewma_columns::ewma_analyze;
 
@@ -22,10 +22,4 @@ pub(crate) fn shortest(a: usize, b: usize, c: usize, d: usize) -> usize
     ensures { λ r. ⌜ r ≡ shortest a b c d ⌝ }
 {
     shorter(shorter(a, b), shorter(c, d))
-}
-
-pub(crate) fn flag(signal: bool) -> u8
-    ensures { λ r. ⌜ r ≡ flag signal ⌝ }
-{
-    if signal { 1 } else { 0 }
 }

@@ -1,9 +1,12 @@
 pub mod Answers
+pub mod SideLaws
+pub mod HearingLaws
 pub mod SettingLaws
 pub mod Loops
 pub mod AnswerKind
 pub mod Plain
 pub mod Runs
+pub mod Written
 pub mod Points
 pub mod Columns
 pub mod Walk

@@ -1,9 +1,10 @@
-// What the charts share: the index of an observation and the place on a chart, the order of a chart's
-// refusals, and what is proved once of every chart.
+// What the charts share: the index of an observation and the place on a chart, the sides on which a
+// record signals, the order of a chart's refusals, and what is proved once of every chart.
 //
-// No function asks anything of its caller. A chart's refusals are those of its settings, 15 to 18, and
-// then 6 and 7, tried in that order: `specs/Settings` and `specs/Answers`; what `analyze` and
-// `signal_points` of any chart come to is `specs/Outcomes`.
+// No function asks anything of its caller. `specs/Sides` says what a side is made of and which sides
+// are a signal. A chart's refusals are those of its settings, 15 to 18, and then 6 and 7, tried in that
+// order: `specs/Settings` and `specs/Answers`; what `analyze` and `signal_points` of any chart come to
+// is `specs/Outcomes`.
 //
 // `specs/Runs` says what a run over a series is, whatever its settings, states and records are, and
 // `proofs/Walk` walks the loop that fills a lent slice of such records, for any chart whose own proof
@@ -15,6 +16,7 @@ ghost use Rattle.refusals.specs.Tried.{countOf};
 ghost use Rattle.charts.specs.Settings.{settingTests, testedAs};
 ghost use Rattle.charts.specs.Answers.{admittedAfter, recounted};
 ghost use Rattle.charts.specs.Notes.{noted};
+ghost use Rattle.charts.specs.Sides.{sideOf, signals, sideNumber};
 use refusals::Answer;
 use refusals::MAX_READINGS;
 use refusals::Refusal;
@@ -24,6 +26,29 @@ pub struct Observation(pub usize);
 
 // The place of an observation on its chart, from 1.
 pub struct Place(pub usize);
+
+// On which side of a chart a reading signals.
+pub enum Side {
+    None,
+    Above,
+    Below,
+    Both,
+}
+
+// Which of a chart's two sums is asked for: that of what lies above the target, or that of what lies
+// below it.
+pub enum Sum {
+    Upper,
+    Lower,
+}
+
+// The answer of a run length: the reading, from 1, at which the asked sum was first above its bound;
+// that it was not; or a refusal.
+pub enum Heard {
+    At(usize),
+    NotHeard,
+    Refused(Refusal),
+}
 
 // Whether each setting of a chart is in range: its `target`, its `sigma`, its `weight` (k or lambda) and
 // its `bound` (h or L).
@@ -38,6 +63,43 @@ pub struct InRange {
 pub enum Settings {
     Accepted,
     Refused(Refusal),
+}
+
+// The side of a reading that signals `above` and `below`, or on one of them, or not at all.
+pub fn side_of(above: bool, below: bool) -> Side
+    ensures { λ r. ⌜ r ≡ sideOf above below ⌝ }
+{
+    if above {
+        if below { Side::Both } else { Side::Above }
+    } else if below {
+        Side::Below
+    } else {
+        Side::None
+    }
+}
+
+// Whether `side` is a signal.
+pub fn signals(side: Side) -> bool
+    ensures { λ r. ⌜ r ≡ signals side ⌝ }
+{
+    match side {
+        Side::None => false,
+        Side::Above => true,
+        Side::Below => true,
+        Side::Both => true,
+    }
+}
+
+// The number of `side`: 0 none, 1 above, 2 below, 3 both.
+pub fn side_number(side: Side) -> u8
+    ensures { λ r. ⌜ r ≡ sideNumber side ⌝ }
+{
+    match side {
+        Side::None => 0,
+        Side::Above => 1,
+        Side::Below => 2,
+        Side::Both => 3,
+    }
 }
 
 // How many results `answer` says were written: its count, and 0 for a refusal.

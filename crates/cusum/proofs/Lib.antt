@@ -4,6 +4,7 @@ pub mod Allowance
 pub mod Hearing
 pub mod Sums
 pub mod RunLength
+pub mod Sides
 pub mod Promise
 pub mod SumSigns
 pub mod Calls

@@ -17,10 +17,11 @@ use Rattle.charts.specs.Settings.{Named}
 use Rattle.charts.proofs.SettingLaws.{settings-pass, refusal-names, analyzed-refused, signalled-refused}
 use Rattle.cusum.specs.declared.Cusum.{Cusum}
 use Rattle.cusum.specs.declared.CusumResult.{CusumResult}
-use Rattle.cusum.specs.declared.Side.{Side}
-use Rattle.cusum.specs.declared.Heard.the-variants as Heard
+use Rattle.charts.specs.declared.Sum.{Sum}
+use Rattle.charts.specs.declared.Heard.the-variants as Heard
 use Rattle.cusum.specs.Chart.{accepted, inRange, testsOf, records, signalling, analyzed, signalled}
-use Rattle.cusum.specs.RunLength.{heard, heardAs, runLength}
+use Rattle.charts.specs.Hearing.{heardAs}
+use Rattle.cusum.specs.RunLength.{heard, runLength}
 
 pub tests-accept : (c : Cusum) → passed (testsOf c) ≡ accepted c
 unfolding accepted testsOf
@@ -38,6 +39,6 @@ pub signal-points-refused : (c : Cusum) (xs : List Float) (entry exit : List ℕ
 unfolding testsOf
 signal-points-refused c xs entry exit r e = signalled-refused (inRange c) (length xs) (signalling c xs (length xs)) entry exit r e
 
-pub run-length-refused : (c : Cusum) (v : Float) (side : Side) (r : Refusal) → heardAs (Heard.Refused r) ≡ runLength c v side → Named (inRange c) r
+pub run-length-refused : (c : Cusum) (v : Float) (asked : Sum) (r : Refusal) → heardAs (Heard.Refused r) ≡ runLength c v asked → Named (inRange c) r
 unfolding runLength testsOf
-run-length-refused c v side r e = refusal-names ((not (finite v), Refusal.NonFinite 0 0) ∷ []) (omega arith, tt) (heard c v side) r (inRange c) (sym e)
+run-length-refused c v asked r e = refusal-names ((not (finite v), Refusal.NonFinite 0 0) ∷ []) (omega arith, tt) (heard c v asked) r (inRange c) (sym e)

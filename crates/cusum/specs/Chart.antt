@@ -1,12 +1,13 @@
 -- The CUSUM chart: its settings, one reading's step, the records of a series, and the indices that signal. Rules 5.1 to 5.3 and 5.5. Definitions only.
 use Prim.Native.Nat.{ℕ}
-use mathlib.Core.Bool.{Bool, false, _&&_, _||_, cond}
+use mathlib.Core.Bool.{Bool, _&&_, cond}
 use mathlib.Core.List.{List}
 use lib.ListN.{length}
 use lib.Ieee.{Float}
 use Rattle.floats.specs.Numbers.{_+ᶠ_, _-ᶠ_, _/ᶠ_, _<ᶠ_, _≤ᶠ_, +0, ofWhole, ratio}
 use Rattle.floats.specs.Finite.{finite}
 use Rattle.floats.specs.MaxMin.{larger}
+use Rattle.charts.specs.Sides.{sideOf, signals}
 use Rattle.charts.specs.Settings.{settingTests}
 use Rattle.charts.specs.Runs as Runs
 use Rattle.charts.specs.Outcomes as Outcomes
@@ -14,6 +15,7 @@ use Rattle.refusals.specs.declared.Refusal.{Refusal}
 use Rattle.refusals.specs.declared.Answer.{Answer}
 use Rattle.charts.specs.declared.InRange.{InRange}
 use Rattle.charts.specs.declared.Observation.{Observation}
+use Rattle.charts.specs.declared.Side.the-variants as Sided
 use Rattle.cusum.specs.declared.Cusum.{Cusum}
 use Rattle.cusum.specs.declared.CusumResult.{CusumResult}
 use Rattle.cusum.specs.declared.State.{State}
@@ -40,20 +42,20 @@ testsOf c = settingTests (inRange c)
 abbrev pub score : Cusum → Float → Float
 score c x = (x -ᶠ c .target) /ᶠ c .sigma
 
--- the record at `index` of a chart whose sums are now `upper` and `lower`
+-- the record at `index` of a chart whose sums are now `upper` and `lower`: its side is that of the sums above h
 abbrev pub moved : Cusum → Observation → Float → Float → CusumResult
-moved c index upper lower = record { «s_upper» = upper; «s_lower» = lower; signal = c .h <ᶠ upper || c .h <ᶠ lower; index = index }
+moved c index upper lower = record { «s_upper» = upper; «s_lower» = lower; side = sideOf (c .h <ᶠ upper) (c .h <ᶠ lower); index = index }
 
--- the record of the reading `x` at `index`, after the record `before`: both sums move on; a gap carries them forward, without a signal
+-- the record of the reading `x` at `index`, after the record `before`: both sums move on; a gap carries them forward, and its side is none
 unfoldable pub stepOf : Cusum → CusumResult → Observation → Float → CusumResult
 stepOf c before index x =
     cond (finite x)
     (moved c index (larger (before .«s_upper» +ᶠ score c x -ᶠ c .k) +0) (larger (before .«s_lower» -ᶠ score c x -ᶠ c .k) +0))
-    (record { «s_upper» = before .«s_upper»; «s_lower» = before .«s_lower»; signal = false; index = index })
+    (record { «s_upper» = before .«s_upper»; «s_lower» = before .«s_lower»; side = Sided.None; index = index })
 
 -- before the first reading both sums are 0
 abbrev pub fresh : CusumResult
-fresh = record { «s_upper» = +0; «s_lower» = +0; signal = false; index = record { 0 = 0 } }
+fresh = record { «s_upper» = +0; «s_lower» = +0; side = Sided.None; index = record { 0 = 0 } }
 
 -- the same as states of a run, and the record that a state shows
 abbrev pub shownOf : State → CusumResult
@@ -76,7 +78,7 @@ abbrev pub records : Cusum → List Float → ℕ → List CusumResult
 records = Runs.records shownOf startState nextState
 
 abbrev pub signalOf : CusumResult → Bool
-signalOf r = r .signal
+signalOf r = signals (r .side)
 
 abbrev pub signalling : Cusum → List Float → ℕ → List ℕ
 signalling c xs n = Runs.points shownOf startState nextState c xs signalOf n

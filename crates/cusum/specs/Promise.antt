@@ -8,19 +8,19 @@ use lib.ListN.{getD}
 use lib.Ieee.{Float, nan}
 use Rattle.floats.specs.Numbers.{_<ᶠ_, _≤ᶠ_}
 use Rattle.floats.specs.Finite.{finite}
+use Rattle.charts.specs.declared.Sum.{Sum}
+use Rattle.charts.specs.declared.Sum.the-variants.{Upper, Lower}
 use Rattle.cusum.specs.declared.Cusum.{Cusum}
-use Rattle.cusum.specs.declared.Side.{Side}
-use Rattle.cusum.specs.declared.Side.the-variants.{Upper, Lower}
 use Rattle.cusum.specs.RunLength.{sumOf, fed}
 
--- the fresh chart `c`, fed only the level `v`, first has the sum of `side` above h at reading `n`
-pub record FirstHeard (c : Cusum) (v : Float) (side : Side) (n : ℕ) : Type 0 where
+-- the fresh chart `c`, fed only the level `v`, first has the asked sum above h at reading `n`
+pub record FirstHeard (c : Cusum) (v : Float) (asked : Sum) (n : ℕ) : Type 0 where
   pub reading : 0 < n
-  pub over : T (c .h <ᶠ sumOf side (fed c v n))
-  pub before : (m : ℕ) → 0 < m → m < n → T (not (c .h <ᶠ sumOf side (fed c v m)))
+  pub over : T (c .h <ᶠ sumOf asked (fed c v n))
+  pub before : (m : ℕ) → 0 < m → m < n → T (not (c .h <ᶠ sumOf asked (fed c v m)))
 
--- the reading `x` is at or above the level `v`, and for the lower side at or below it
-abbrev pub beyond : Side → Float → Float → Bool
+-- the reading `x` is at or above the level `v`, and for the lower sum at or below it
+abbrev pub beyond : Sum → Float → Float → Bool
 beyond Upper v x = v ≤ᶠ x
 beyond Lower v x = x ≤ᶠ v
 
@@ -30,7 +30,7 @@ finites xs p zero = 0
 finites xs p (suc d) = cond (finite (getD xs (p + d) nan)) (suc (finites xs p d)) (finites xs p d)
 
 -- counted from `p`, the reading of `xs` at `p + d` is the `n`th finite one, and all the finite ones up to it are at the level `v` or beyond
-pub record Lasting (side : Side) (v : Float) (xs : List Float) (p d n : ℕ) : Type 0 where
+pub record Lasting (asked : Sum) (v : Float) (xs : List Float) (p d n : ℕ) : Type 0 where
   pub nth : suc (finites xs p d) ≡ n
   pub last : T (finite (getD xs (p + d) nan))
-  pub all : (j : ℕ) → j ≤ d → T (finite (getD xs (p + j) nan)) → T (beyond side v (getD xs (p + j) nan))
+  pub all : (j : ℕ) → j ≤ d → T (finite (getD xs (p + j) nan)) → T (beyond asked v (getD xs (p + j) nan))

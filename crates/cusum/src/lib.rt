@@ -1,18 +1,22 @@
 // The tabular CUSUM chart of `cusum.rs`: two sums, of how far the readings lie above the target and
 // below it, in units of sigma and less the allowance k at each reading, never under zero; a reading
-// signals where a sum is above the decision interval h (rules 5.3 and 5.6).
+// signals where a sum is above the decision interval h, and its side says which (rules 5.3 and 5.6).
 //
 // Every call ends with an answer or a refusal, and asks nothing of its caller: settings are checked
 // when they are used. `specs/Chart` has the recurrences that the records equal, and
-// `proofs/Promise` the promise that a lasting shift is signalled.
+// `proofs/Promise` the promise that a lasting shift is signalled on its side.
 mod listen;
 mod step;
 
 ghost use mathlib.Core.Path.{_≡_};
 ghost use Rattle.cusum.specs.Chart.{newOf, withParams, analyzed, signalled};
-ghost use Rattle.cusum.specs.RunLength.{heardAs, runLength};
+ghost use Rattle.charts.specs.Hearing.{heardAs};
+ghost use Rattle.cusum.specs.RunLength.{runLength};
+use charts::Heard;
 use charts::Observation;
 use charts::Settings;
+use charts::Side;
+use charts::Sum;
 use listen::listen;
 use refusals::Answer;
 use refusals::Refusal;
@@ -29,31 +33,17 @@ pub struct Cusum {
     pub h: f64,
 }
 
-// The record of the observation `index`: both sums after it, and whether one is above h.
+// The record of the observation `index`: both sums after it, and the side on which they are above h.
 pub struct CusumResult {
     pub s_upper: f64,
     pub s_lower: f64,
-    pub signal: bool,
+    pub side: Side,
     pub index: Observation,
 }
 
 // What goes from reading to reading: nothing beside the last record.
 pub struct State {
     pub shown: CusumResult,
-}
-
-// Which of the two sums is asked for: that above the target or that below it.
-pub enum Side {
-    Upper,
-    Lower,
-}
-
-// The answer of `run_length`: the reading, from 1, at which the sum was first above h; that it was not;
-// or a refusal.
-pub enum Heard {
-    At(usize),
-    NotHeard,
-    Refused(Refusal),
 }
 
 impl Cusum {
@@ -111,23 +101,24 @@ impl Cusum {
         while i < n {
             state = next(self, data, i, state);
             let shown = state.shown;
-            count = charts::note(shown.signal, i, count, points);
+            let side = shown.side;
+            count = charts::note(charts::signals(side), i, count, points);
             i += 1;
         }
         charts::marked(answer, count)
     }
 
-    // The first reading, 1 to 4,096, at which a fresh chart that is fed only `level` has the sum of
-    // `side` above h. Settings that are out of range are refused first, and then a `level` that is not
-    // finite. Cost: one step for each reading up to that one.
-    pub fn run_length(self, level: f64, side: Side) -> Heard
-        ensures { λ r. ⌜ heardAs r ≡ runLength self level side ⌝ }
+    // The first reading, 1 to 4,096, at which a fresh chart that is fed only `level` has the sum `asked`
+    // above h. Settings that are out of range are refused first, and then a `level` that is not finite.
+    // Cost: one step for each reading up to that one.
+    pub fn run_length(self, level: f64, asked: Sum) -> Heard
+        ensures { λ r. ⌜ heardAs r ≡ runLength self level asked ⌝ }
     {
         let settings = tested(self);
         match settings {
             Settings::Accepted => {
                 if floats::finite(level) {
-                    return listen(self, level, side);
+                    return listen(self, level, asked);
                 }
                 Heard::Refused(Refusal::NonFinite {
                     channel: 0,

@@ -1,29 +1,31 @@
-// A fresh chart that is fed one level, and the reading at which a side's sum is first above h.
+// A fresh chart that is fed one level, and the reading at which a sum is first above h.
 ghost use mathlib.Core.Path.{_≡_};
 ghost use Rattle.refusals.specs.Said.{answered};
-ghost use Rattle.cusum.specs.RunLength.{sumOf, heard, heardAs};
+ghost use Rattle.charts.specs.Hearing.{heardAs};
+ghost use Rattle.cusum.specs.RunLength.{sumOf, heard};
 use crate::Cusum;
 use crate::CusumResult;
-use crate::Heard;
-use crate::Side;
 use crate::step::start;
 use crate::step::step;
+use charts::Heard;
 use charts::Observation;
+use charts::Sum;
 use refusals::MAX_READINGS;
 
-fn sum_of(side: Side, after: CusumResult) -> f64
-    ensures { λ r. ⌜ r ≡ sumOf side after ⌝ }
+// The sum `asked` of the record `after`.
+fn sum_of(asked: Sum, after: CusumResult) -> f64
+    ensures { λ r. ⌜ r ≡ sumOf asked after ⌝ }
 {
-    match side {
-        Side::Upper => after.s_upper,
-        Side::Lower => after.s_lower,
+    match asked {
+        Sum::Upper => after.s_upper,
+        Sum::Lower => after.s_lower,
     }
 }
 
-// The first of 4,096 readings of `level` after which the sum of `side` is above h. Cost: one step for
-// each reading up to that one.
-pub(crate) fn listen(chart: Cusum, level: f64, side: Side) -> Heard
-    ensures { λ r. ⌜ heardAs r ≡ answered (heard chart level side) ⌝ }
+// The first of 4,096 readings of `level` after which the sum `asked` is above h. Cost: one step for each
+// reading up to that one.
+pub(crate) fn listen(chart: Cusum, level: f64, asked: Sum) -> Heard
+    ensures { λ r. ⌜ heardAs r ≡ answered (heard chart level asked) ⌝ }
 {
     let state = start(chart);
     let mut shown = state.shown;
@@ -31,7 +33,7 @@ pub(crate) fn listen(chart: Cusum, level: f64, side: Side) -> Heard
     while reading < MAX_READINGS {
         shown = step(chart, shown, Observation(reading), level);
         reading += 1;
-        if chart.h < sum_of(side, shown) {
+        if chart.h < sum_of(asked, shown) {
             return Heard::At(reading);
         }
     }

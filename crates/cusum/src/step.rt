@@ -15,6 +15,7 @@ use crate::State;
 use charts::InRange;
 use charts::Observation;
 use charts::Settings;
+use charts::Side;
 use refusals::Answer;
 
 // The settings of `chart`, tested in their order.
@@ -62,21 +63,21 @@ fn moved(chart: Cusum, before: CusumResult, index: Observation, z: f64) -> Cusum
         let s_lower = less(lower, chart.k);
         // The second test is asked from the other side, since two of one kind are compiled to one of
         // the larger sum, which keeps the sums waiting.
-        let signal = (chart.h < s_upper) | !(s_lower <= chart.h);
+        let side = charts::side_of(chart.h < s_upper, !(s_lower <= chart.h));
         return CusumResult {
             s_upper,
             s_lower,
-            signal,
+            side,
             index,
         };
     }
     let s_upper = floats::max(upper - chart.k, 0.0);
     let s_lower = floats::max(lower - chart.k, 0.0);
-    let signal = (chart.h < s_upper) | (chart.h < s_lower);
+    let side = charts::side_of(chart.h < s_upper, chart.h < s_lower);
     CusumResult {
         s_upper,
         s_lower,
-        signal,
+        side,
         index,
     }
 }
@@ -92,7 +93,7 @@ pub(crate) fn step(chart: Cusum, before: CusumResult, index: Observation, x: f64
         CusumResult {
             s_upper: before.s_upper,
             s_lower: before.s_lower,
-            signal: false,
+            side: Side::None,
             index,
         }
     }
@@ -105,7 +106,7 @@ pub fn start(chart: Cusum) -> State
     let shown = CusumResult {
         s_upper: 0.0,
         s_lower: 0.0,
-        signal: false,
+        side: Side::None,
         index: Observation(0),
     };
     State { shown }

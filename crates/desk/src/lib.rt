@@ -155,11 +155,11 @@ pub extern "C" fn overbrindle_cusum_analyze(
     data: &[f64],
     s_upper: &mut [f64],
     s_lower: &mut [f64],
-    signal: &mut [u8],
+    side: &mut [u8],
     index: &mut [usize],
     count: &mut usize,
 ) -> u32
-    ensures { λ r. ⌜ (countedAs r (now (count .exit)), now («s_upper» .exit), now («s_lower» .exit), now (signal .exit), now (index .exit)) ≡ cusumArrays (Cusums.withParams target sigma k h) (now («data» .entry)) (now («s_upper» .entry)) (now («s_lower» .entry)) (now (signal .entry)) (now (index .entry)) ⌝ }
+    ensures { λ r. ⌜ (countedAs r (now (count .exit)), now («s_upper» .exit), now («s_lower» .exit), now (side .exit), now (index .exit)) ≡ cusumArrays (Cusums.withParams target sigma k h) (now («data» .entry)) (now («s_upper» .entry)) (now («s_lower» .entry)) (now (side .entry)) (now (index .entry)) ⌝ }
 {
     let chart = Cusum {
         target,
@@ -167,7 +167,7 @@ pub extern "C" fn overbrindle_cusum_analyze(
         k,
         h,
     };
-    let told = c_charts::cusum_analyze(chart, data, s_upper, s_lower, signal, index);
+    let told = c_charts::cusum_analyze(chart, data, s_upper, s_lower, side, index);
     *count = told.count;
     told.number
 }
@@ -197,8 +197,8 @@ pub extern "C" fn overbrindle_cusum_signal_points(
     told.number
 }
 
-// The reading, from 1, at which a fresh CUSUM chart that is fed one level first has the sum of a side
-// above h; 0 where it has not within 4,096 readings, and on a refusal. Side 0 upper, 1 lower.
+// The reading, from 1, at which a fresh CUSUM chart that is fed `level` alone first has the sum `asked`,
+// 0 upper or 1 lower, above h; 0 where it has not within 4,096 readings, and on a refusal.
 #[no_mangle]
 pub extern "C" fn overbrindle_cusum_run_length(
     target: f64,
@@ -206,10 +206,10 @@ pub extern "C" fn overbrindle_cusum_run_length(
     k: f64,
     h: f64,
     level: f64,
-    side: u32,
+    asked: u32,
     reading: &mut usize,
 ) -> u32
-    ensures { λ r. ⌜ countedAs r (now (reading .exit)) ≡ countedOf (runLengthOf (Cusums.withParams target sigma k h) level side) ⌝ }
+    ensures { λ r. ⌜ countedAs r (now (reading .exit)) ≡ countedOf (runLengthOf (Cusums.withParams target sigma k h) level asked) ⌝ }
 {
     let chart = Cusum {
         target,
@@ -217,7 +217,7 @@ pub extern "C" fn overbrindle_cusum_run_length(
         k,
         h,
     };
-    let told = c_answers::run_length(chart, level, side);
+    let told = c_answers::run_length(chart, level, asked);
     *reading = told.count;
     told.number
 }
@@ -234,11 +234,11 @@ pub extern "C" fn overbrindle_ewma_analyze(
     ewma: &mut [f64],
     ucl: &mut [f64],
     lcl: &mut [f64],
-    signal: &mut [u8],
+    side: &mut [u8],
     index: &mut [usize],
     count: &mut usize,
 ) -> u32
-    ensures { λ r. ⌜ (countedAs r (now (count .exit)), now (ewma .exit), now (ucl .exit), now (lcl .exit), now (signal .exit), now (index .exit)) ≡ ewmaArrays (Ewmas.withParams target sigma lambda «l_factor») (now («data» .entry)) (now (ewma .entry)) (now (ucl .entry)) (now (lcl .entry)) (now (signal .entry)) (now (index .entry)) ⌝ }
+    ensures { λ r. ⌜ (countedAs r (now (count .exit)), now (ewma .exit), now (ucl .exit), now (lcl .exit), now (side .exit), now (index .exit)) ≡ ewmaArrays (Ewmas.withParams target sigma lambda «l_factor») (now («data» .entry)) (now (ewma .entry)) (now (ucl .entry)) (now (lcl .entry)) (now (side .entry)) (now (index .entry)) ⌝ }
 {
     let chart = Ewma {
         target,
@@ -246,7 +246,7 @@ pub extern "C" fn overbrindle_ewma_analyze(
         lambda,
         l_factor,
     };
-    let told = c_charts::ewma_analyze(chart, data, ewma, ucl, lcl, signal, index);
+    let told = c_charts::ewma_analyze(chart, data, ewma, ucl, lcl, side, index);
     *count = told.count;
     told.number
 }

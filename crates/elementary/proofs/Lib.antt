@@ -1,5 +1,6 @@
 pub mod Examples
 pub mod Laws
 pub mod RootBound
+pub mod RootSign
 pub mod Square
 pub mod LogarithmSign

@@ -1,5 +1,5 @@
 pub mod Types
 pub mod SettingLaws
+pub mod Sides
 pub mod Fading
 pub mod AtRest
-pub mod Examples

@@ -1,7 +1,9 @@
 -- The tests of a chart's settings pass exactly where it is accepted; and the refusal of a call names the first setting that is out of range. Assumes nothing.
-use mathlib.Core.Path.{_≡_, refl}
+use mathlib.Core.Path.{_≡_, refl, sym, _∙_}
+use mathlib.Core.Bool.{true}
 use mathlib.Core.List.{List}
 use Prim.Native.Nat.{ℕ}
+use lib.Dec.{T}
 use lib.ListN.{length}
 use lib.Ieee.{Float}
 use Rattle.refusals.specs.Tried.{passed}
@@ -17,6 +19,9 @@ use Rattle.ewma.specs.Chart.{accepted, inRange, testsOf, records, signal
 pub tests-accept : (c : Ewma) → passed (testsOf c) ≡ accepted c
 unfolding accepted testsOf
 tests-accept c = settings-pass (inRange c)
+
+pub passed-accepted : (c : Ewma) → passed (testsOf c) ≡ true → T (accepted c)
+passed-accepted c e = rw (sym (tests-accept c) ∙ e) tt
 
 -- ---- of the calls
 pub analyze-refused : (c : Ewma) (xs : List Float) (entry exit : List EwmaResult) (r : Refusal) → _≡_ {A = Answer × List EwmaResult} (Answer.Refused r, exit) (analyzed c xs entry) → Named (inRange c) r × (exit ≡ entry)

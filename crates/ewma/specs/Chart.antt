@@ -1,6 +1,6 @@
 -- The EWMA chart: its settings, its limits, one reading's step, the records of a series, and the indices that signal. Rules 5.1, 5.2, 5.4 and 5.5. Definitions only.
 use Prim.Native.Nat.{ℕ, suc, _*_}
-use mathlib.Core.Bool.{Bool, false, _&&_, _||_, cond}
+use mathlib.Core.Bool.{Bool, _&&_, cond}
 use mathlib.Core.List.{List}
 use lib.ListN.{length}
 use lib.Ieee.{Float}
@@ -8,6 +8,7 @@ use Rattle.floats.specs.Numbers.{_+ᶠ_, _-ᶠ_, _*ᶠ_, _/ᶠ_, _<ᶠ_, _≤�
 use Rattle.floats.specs.Finite.{finite}
 use Rattle.elementary.specs.Root.{sqrt}
 use Rattle.elementary.specs.Power.{powi}
+use Rattle.charts.specs.Sides.{sideOf, signals}
 use Rattle.charts.specs.Settings.{settingTests}
 use Rattle.charts.specs.Runs as Runs
 use Rattle.charts.specs.Outcomes as Outcomes
@@ -16,6 +17,8 @@ use Rattle.refusals.specs.declared.Answer.{Answer}
 use Rattle.charts.specs.declared.InRange.{InRange}
 use Rattle.charts.specs.declared.Observation.{Observation}
 use Rattle.charts.specs.declared.Place.{Place}
+use Rattle.charts.specs.declared.Side.{Side}
+use Rattle.charts.specs.declared.Side.the-variants as Sided
 use Rattle.ewma.specs.declared.Ewma.{Ewma}
 use Rattle.ewma.specs.declared.EwmaResult.{EwmaResult}
 
@@ -48,27 +51,27 @@ halfWidth c place =
     c .«l_factor» *ᶠ c .sigma *ᶠ sqrt (c .lambda /ᶠ (ofWhole 2 -ᶠ c .lambda) *ᶠ (ofWhole 1 -ᶠ powi (ofWhole 1 -ᶠ c .lambda) (2 * place .0)))
 
 -- the record of a statistic with limits that lie a given width from the target
-abbrev pub within : Ewma → Observation → Float → Bool → Float → EwmaResult
-within c index half signal ewma = record { ewma = ewma; ucl = c .target +ᶠ half; lcl = c .target -ᶠ half; signal = signal; index = index }
+abbrev pub within : Ewma → Observation → Float → Side → Float → EwmaResult
+within c index half side ewma = record { ewma = ewma; ucl = c .target +ᶠ half; lcl = c .target -ᶠ half; side = side; index = index }
 
--- whether a statistic is strictly outside the limits
-abbrev pub outside : Ewma → Float → Float → Bool
-outside c half ewma = (c .target +ᶠ half <ᶠ ewma) || (ewma <ᶠ c .target -ᶠ half)
+-- on which side a statistic is strictly outside the limits
+abbrev pub outside : Ewma → Float → Float → Side
+outside c half ewma = sideOf (c .target +ᶠ half <ᶠ ewma) (ewma <ᶠ c .target -ᶠ half)
 
 -- the statistic moves on to a reading: lambda·x + (1 - lambda)·before
 abbrev pub averaged : Ewma → Float → Float → Float
 averaged c before x = c .lambda *ᶠ x +ᶠ (ofWhole 1 -ᶠ c .lambda) *ᶠ before
 
--- the record of the reading `x` at `index`, after the record `before`; a gap carries the statistic forward, without a signal
+-- the record of the reading `x` at `index`, after the record `before`; a gap carries the statistic forward, and its side is none
 unfoldable pub stepOf : Ewma → EwmaResult → Observation → Float → EwmaResult
 stepOf c before index x =
     let half = halfWidth c (placeOf index) in
     let ewma = averaged c (before .ewma) x in
-    cond (finite x) (within c index half (outside c half ewma) ewma) (within c index half false (before .ewma))
+    cond (finite x) (within c index half (outside c half ewma) ewma) (within c index half Sided.None (before .ewma))
 
 -- before the first reading the statistic is the target
 abbrev pub fresh : Ewma → EwmaResult
-fresh c = record { ewma = c .target; ucl = c .target; lcl = c .target; signal = false; index = record { 0 = 0 } }
+fresh c = record { ewma = c .target; ucl = c .target; lcl = c .target; side = Sided.None; index = record { 0 = 0 } }
 
 -- the same as a run whose states are the records, each of which shows itself
 abbrev pub itself : EwmaResult → EwmaResult
@@ -85,7 +88,7 @@ abbrev pub records : Ewma → List Float → ℕ → List EwmaResult
 records = Runs.records itself fresh nextRecord
 
 abbrev pub signalOf : EwmaResult → Bool
-signalOf r = r .signal
+signalOf r = signals (r .side)
 
 abbrev pub signalling : Ewma → List Float → ℕ → List ℕ
 signalling c xs n = Runs.points itself fresh nextRecord c xs signalOf n

@@ -11,6 +11,7 @@ use Rattle.elementary.specs.Root.{sqrt}
 use Rattle.charts.specs.Runs as Runs
 use Rattle.charts.specs.declared.Observation.{Observation}
 use Rattle.charts.specs.declared.Place.{Place}
+use Rattle.charts.specs.declared.Side.the-variants as Sided
 use Rattle.ewma.specs.declared.Ewma.{Ewma}
 use Rattle.ewma.specs.declared.EwmaResult.{EwmaResult}
 use Rattle.ewma.specs.declared.State.{State}
@@ -42,7 +43,7 @@ widthFrom c w place = cond (leb (w .from) (place .0)) (w .«half_width») (halfW
 unfoldable pub stepBy : Ewma → Float → EwmaResult → Observation → Float → EwmaResult
 stepBy c half before index x =
     let ewma = averaged c (before .ewma) x in
-    cond (finite x) (within c index half (outside c half ewma) ewma) (within c index half false (before .ewma))
+    cond (finite x) (within c index half (outside c half ewma) ewma) (within c index half Sided.None (before .ewma))
 
 -- the states of a run with those widths, which carry them along, and the record that a state shows
 abbrev pub shownOf : State → EwmaResult

@@ -1,15 +1,17 @@
 // The exponentially weighted moving average chart of `ewma.rs`: a statistic that moves towards each
 // reading by the weight lambda, with exact limits that widen with the place on the chart; a reading
-// signals where the statistic is strictly outside them (rule 5.4).
+// signals where the statistic is strictly outside them, and its side says on which (rule 5.4).
 //
 // Every call ends with an answer or a refusal, and asks nothing of its caller: settings are checked
-// when they are used. `specs/Chart` has the recurrences that the records equal.
+// when they are used. `specs/Chart` has the recurrences that the records equal, and `proofs/Sides` what
+// is known of their sides: that of an accepted chart is never both.
 mod resting;
 mod step;
 
 ghost use mathlib.Core.Path.{_≡_};
 ghost use Rattle.ewma.specs.Chart.{newOf, withParams, analyzed, signalled};
 use charts::Observation;
+use charts::Side;
 use refusals::Answer;
 pub use step::following;
 pub use step::judge;
@@ -23,12 +25,12 @@ pub struct Ewma {
 }
 
 // The record of the observation `index`: the statistic `ewma` after it, the limits `ucl` and `lcl` at
-// its place, and whether the statistic is outside them.
+// its place, and the side on which the statistic is outside them.
 pub struct EwmaResult {
     pub ewma: f64,
     pub ucl: f64,
     pub lcl: f64,
-    pub signal: bool,
+    pub side: Side,
     pub index: Observation,
 }
 
@@ -99,7 +101,8 @@ impl Ewma {
         while i < n {
             state = following(self, data, i, state);
             let shown = state.shown;
-            count = charts::note(shown.signal, i, count, points);
+            let side = shown.side;
+            count = charts::note(charts::signals(side), i, count, points);
             i += 1;
         }
         charts::marked(answer, count)

@@ -15,6 +15,7 @@ use charts::InRange;
 use charts::Observation;
 use charts::Place;
 use charts::Settings;
+use charts::Side;
 use refusals::Answer;
 
 // The settings of `chart`, tested in their order.
@@ -55,12 +56,12 @@ fn step_by(
     let lcl = chart.target - half_width;
     if floats::finite(x) {
         let ewma = chart.lambda * x + (1.0 - chart.lambda) * before.ewma;
-        let signal = (ucl < ewma) | (ewma < lcl);
+        let side = charts::side_of(ucl < ewma, ewma < lcl);
         EwmaResult {
             ewma,
             ucl,
             lcl,
-            signal,
+            side,
             index,
         }
     } else {
@@ -68,7 +69,7 @@ fn step_by(
             ewma: before.ewma,
             ucl,
             lcl,
-            signal: false,
+            side: Side::None,
             index,
         }
     }
@@ -83,7 +84,7 @@ pub fn start(chart: Ewma) -> State
         ewma: chart.target,
         ucl: chart.target,
         lcl: chart.target,
-        signal: false,
+        side: Side::None,
         index: Observation(0),
     };
     let half_width = width_at(chart, 1.0);

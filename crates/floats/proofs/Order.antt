@@ -4,6 +4,7 @@ pub mod Rounding
 pub mod Sums
 pub mod Quotients
 pub mod Zero
+pub mod FromZero
 pub mod Magnitude
 pub mod Extremes
 pub mod Patterns

@@ -6,7 +6,7 @@
 // The kinds are 0 for series, 1 for records, 2 for indices, 3 for lent records and indices that are to
 // be as they were, 4 for calls at a limit, and 5 for run lengths. The values are shown by these numbers:
 //
-//     0 to 2    of a record the upper sum, the lower sum, and its index with the signal 32 bits higher
+//     0 to 2    of a record the upper sum, the lower sum, and its index with the side 32 bits higher
 //     5, 6      the answers of signal_points and analyze: how many results, or a refusal 32 bits higher
 //     7, 8      an index, and a lent index behind the last
 //     9         a run length, or a refusal 32 bits higher
@@ -19,8 +19,8 @@ mod limits;
 mod records;
 mod run_length;
 
+use charts::Sum;
 use cusum::Cusum;
-use cusum::Side;
 use limits::limits;
 use records::replay_answers;
 use replay_common::Block;
@@ -63,8 +63,8 @@ fn replay_case(progress: Progress, block: Block) -> Progress {
     let chart = chart_of(&bytes);
     match bytes[0] {
         b'n' | b'p' => replay_series(begun, chart),
-        b'u' => replay_run_length(begun, chart, Side::Upper),
-        b'l' => replay_run_length(begun, chart, Side::Lower),
+        b'u' => replay_run_length(begun, chart, Sum::Upper),
+        b'l' => replay_run_length(begun, chart, Sum::Lower),
         _ => begun.stopped(),
     }
 }

@@ -1,6 +1,7 @@
 // Comparing what a chart makes of a series with what is stored of it.
 use crate::lend::lend;
 use charts::Observation;
+use charts::Side;
 use cusum::Cusum;
 use cusum::CusumResult;
 use replay_common::KEPT;
@@ -8,8 +9,8 @@ use replay_common::Progress;
 use replay_common::RECORD;
 use replay_common::number;
 
-// A record as numbers, its values by their bit patterns. The `mark` is the index, and 32 bits higher a 1
-// for a signal.
+// A record as numbers, its values by their bit patterns. The `mark` is the index, and 32 bits higher the
+// number of the side.
 struct Fields {
     s_upper: u64,
     s_lower: u64,
@@ -21,26 +22,19 @@ pub(crate) fn unused() -> CusumResult {
     CusumResult {
         s_upper: -7.0,
         s_lower: -9.0,
-        signal: true,
+        side: Side::Both,
         index: Observation(9999),
     }
-}
-
-// The mark of a record with `signal` and `index`.
-fn marked(signal: bool, index: usize) -> u64 {
-    if signal {
-        return 1 << 32 | index as u64;
-    }
-    index as u64
 }
 
 // The fields of `record`.
 fn fields_of(record: CusumResult) -> Fields {
     let index = record.index;
+    let side = record.side;
     Fields {
         s_upper: floats::to_bits(record.s_upper),
         s_lower: floats::to_bits(record.s_lower),
-        mark: marked(record.signal, index.0),
+        mark: (charts::side_number(side) as u64) << 32 | index.0 as u64,
     }
 }
 

@@ -1,7 +1,7 @@
 // Comparing a run length with the stored one.
+use charts::Heard;
+use charts::Sum;
 use cusum::Cusum;
-use cusum::Heard;
-use cusum::Side;
 use refusals::Refusal;
 use replay_common::Progress;
 use replay_common::float;
@@ -25,14 +25,14 @@ fn heard(answer: Heard) -> u64 {
     }
 }
 
-// Replays the run length that the input has next, by `chart` on the side `side`.
-pub(crate) fn replay_run_length(progress: Progress, chart: Cusum, side: Side) -> Progress {
+// Replays the run length that the input has next, by the sum `asked` of `chart`.
+pub(crate) fn replay_run_length(progress: Progress, chart: Cusum, asked: Sum) -> Progress {
     let block = replay_common::next_block(11);
     let bytes = block.bytes;
     if !block.whole {
         return progress.stopped();
     }
-    let answer = chart.run_length(float(&bytes, 0), side);
+    let answer = chart.run_length(float(&bytes, 0), asked);
     let expected = number(&bytes, 8, 1) << 32 | number(&bytes, 9, 2);
     progress
         .matched(9, 0, expected, heard(answer))

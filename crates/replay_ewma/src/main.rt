@@ -6,7 +6,7 @@
 // The kinds are 0 for series, 1 for records, 2 for indices, 3 for lent records and indices that are to
 // be as they were, and 4 for calls at a limit. The values are shown by these numbers:
 //
-//     0 to 3    of a record the value, the limits, and its index with the signal 32 bits higher
+//     0 to 3    of a record the value, the limits, and its index with the side 32 bits higher
 //     5, 6      the answers of signal_points and analyze: how many results, or a refusal 32 bits higher
 //     7, 8      an index, and a lent index behind the last
 //

@@ -1,6 +1,7 @@
 // Comparing what a chart makes of a series with what is stored of it.
 use crate::lend::lend;
 use charts::Observation;
+use charts::Side;
 use ewma::Ewma;
 use ewma::EwmaResult;
 use replay_common::KEPT;
@@ -8,8 +9,8 @@ use replay_common::Progress;
 use replay_common::RECORD;
 use replay_common::number;
 
-// A record as numbers, its values by their bit patterns. The `mark` is the index, and 32 bits higher a 1
-// for a signal.
+// A record as numbers, its values by their bit patterns. The `mark` is the index, and 32 bits higher the
+// number of the side.
 struct Fields {
     ewma: u64,
     ucl: u64,
@@ -23,27 +24,20 @@ pub(crate) fn unused() -> EwmaResult {
         ewma: -7.0,
         ucl: -8.0,
         lcl: -9.0,
-        signal: true,
+        side: Side::Both,
         index: Observation(9999),
     }
-}
-
-// The mark of a record with `signal` and `index`.
-fn marked(signal: bool, index: usize) -> u64 {
-    if signal {
-        return 1 << 32 | index as u64;
-    }
-    index as u64
 }
 
 // The fields of `record`.
 fn fields_of(record: EwmaResult) -> Fields {
     let index = record.index;
+    let side = record.side;
     Fields {
         ewma: floats::to_bits(record.ewma),
         ucl: floats::to_bits(record.ucl),
         lcl: floats::to_bits(record.lcl),
-        mark: marked(record.signal, index.0),
+        mark: (charts::side_number(side) as u64) << 32 | index.0 as u64,
     }
 }
 

@@ -6,12 +6,13 @@ use mathlib.Core.List.{List}
 use lib.Ieee.{Float}
 use Rattle.refusals.specs.Said.{said}
 use Rattle.refusals.specs.declared.Answer.{Answer}
+use Rattle.charts.specs.declared.Heard.{Heard}
+use Rattle.charts.specs.declared.Sum.{Sum}
+use Rattle.charts.specs.Hearing.{heardAs}
 use Rattle.cusum.specs.Chart as Cusum
 use Rattle.cusum.specs.RunLength as RunLength
 use Rattle.cusum.specs.declared.Cusum.{Cusum}
 use Rattle.cusum.specs.declared.CusumResult.{CusumResult}
-use Rattle.cusum.specs.declared.Heard.{Heard}
-use Rattle.cusum.specs.declared.Side.{Side}
 use Rattle.ewma.specs.Chart as Ewma
 use Rattle.ewma.specs.declared.Ewma.{Ewma}
 use Rattle.ewma.specs.declared.EwmaResult.{EwmaResult}
@@ -43,6 +44,6 @@ pub ewma-points-outcome : (c : Ewma) (xs : List Float) (entry exit : List ℕ) (
 unfolding outcome
 ewma-points-outcome c xs entry exit r a = ap (λ (o : Answer × List ℕ). points (said (o .0)) (o .1)) a
 
-pub heard-outcome : (c : Cusum) (level : Float) (side : Side) (r : Heard) → RunLength.heardAs r ≡ RunLength.runLength c level side → heard (RunLength.heardAs r) ≡ outcome (runLength c level side)
+pub heard-outcome : (c : Cusum) (level : Float) (asked : Sum) (r : Heard) → heardAs r ≡ RunLength.runLength c level asked → heard (heardAs r) ≡ outcome (runLength c level asked)
 unfolding outcome
-heard-outcome c level side r a = ap heard a
+heard-outcome c level asked r a = ap heard a

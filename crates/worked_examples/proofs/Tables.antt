@@ -35,17 +35,18 @@ use Rattle.search_answer.specs.Search.{penaltyValue, prunedCuts, functionalCuts
 use Rattle.search_answer.specs.Outcome.{foundOutcome, outcomeBy}
 use Rattle.search_rules.specs.Room.{roomFits}
 use Rattle.charts.specs.Answers.{chartAnswer}
+use Rattle.charts.specs.Sides.{sideOf}
 use Rattle.cusum.specs.Chart as Cusum
 use Rattle.cusum.specs.RunLength.{heardFrom, heard, runLength}
 use Rattle.ewma.specs.Chart as Ewma
 use Rattle.worked_examples.specs.Calls.{Call, Outcome, resolvedBy, outcome}
 use Rattle.worked_examples.specs.Rows.{Row, Hold, sumsFrom, averagesFrom, ballsFrom}
 use Rattle.worked_examples.specs.Marked.{markedRows}
-use Rattle.worked_examples.specs.Further.{functionalRows, slackRows, roundingRows, furtherRoundingRows, inequalityRows, noiseRows, penaltyRows, refusalRows, chartRows, settingRows, ballRows, furtherRows}
+use Rattle.worked_examples.specs.Further.{functionalRows, slackRows, roundingRows, furtherRoundingRows, inequalityRows, noiseRows, penaltyRows, refusalRows, chartRows, settingRows, sideRows, ballRows, furtherRows}
 
 -- an outcome, opened: to unfold it is to unfold all that the line names
 opened : Call → Outcome
-unfolding outcome resolvedBy ballsFrom sumsFrom averagesFrom chartAnswer Cusum.stepOf Cusum.newOf Cusum.testsOf heardFrom heard runLength Ewma.stepOf Ewma.newOf Ewma.testsOf Ewma.halfWidth
+unfolding outcome resolvedBy ballsFrom sumsFrom averagesFrom chartAnswer sideOf Cusum.stepOf Cusum.newOf Cusum.testsOf heardFrom heard runLength Ewma.stepOf Ewma.newOf Ewma.testsOf Ewma.halfWidth
     searchTests roomTests shortRoom roomFits badPenalty shapeTests totalTo sameTo gapTo channelAt indexAt tried
     cutsFound cutsWith cutsBy takesFunctional functionalCuts prunedCuts penaltyValue penaltyOf bicPenalty foundOutcome outcomeBy cutsOf backFrom predecessorOf
     noiseSumTo noise spreadOf floorOf median differences differenceAt sorted insert tab
@@ -60,8 +61,8 @@ opened call = outcome call
 -- ---- the tables
 
 -- how many rows there are: of the marked examples P8, P9 and P13 have two each
-pub sizes : (length markedRows ≡ 16) × (length furtherRows ≡ 103)
-unfolding markedRows furtherRows functionalRows inequalityRows noiseRows refusalRows chartRows settingRows ballRows slackRows penaltyRows roundingRows furtherRoundingRows
+pub sizes : (length markedRows ≡ 16) × (length furtherRows ≡ 118)
+unfolding markedRows furtherRows functionalRows inequalityRows noiseRows refusalRows chartRows settingRows sideRows ballRows slackRows penaltyRows roundingRows furtherRoundingRows
 sizes = (refl, refl)
 
 -- P1 to P13
@@ -98,6 +99,10 @@ setting-rows : Hold settingRows
 unfolding opened settingRows
 setting-rows = refl
 
+side-rows : Hold sideRows
+unfolding opened sideRows
+side-rows = refl
+
 ball-rows : Hold ballRows
 unfolding opened ballRows
 ball-rows = refl
@@ -122,13 +127,14 @@ further-rounding-rows = refl
 pub further : Hold furtherRows
 unfolding furtherRows
 further =
-    both functionalRows (inequalityRows ++ (noiseRows ++ (refusalRows ++ (chartRows ++ (settingRows ++ (ballRows ++ (slackRows ++ (penaltyRows ++ (roundingRows ++ furtherRoundingRows))))))))) functional-rows
-    (both inequalityRows (noiseRows ++ (refusalRows ++ (chartRows ++ (settingRows ++ (ballRows ++ (slackRows ++ (penaltyRows ++ (roundingRows ++ furtherRoundingRows)))))))) inequality-rows
-    (both noiseRows (refusalRows ++ (chartRows ++ (settingRows ++ (ballRows ++ (slackRows ++ (penaltyRows ++ (roundingRows ++ furtherRoundingRows))))))) noise-rows
-    (both refusalRows (chartRows ++ (settingRows ++ (ballRows ++ (slackRows ++ (penaltyRows ++ (roundingRows ++ furtherRoundingRows)))))) refusal-rows
-    (both chartRows (settingRows ++ (ballRows ++ (slackRows ++ (penaltyRows ++ (roundingRows ++ furtherRoundingRows))))) chart-rows
-    (both settingRows (ballRows ++ (slackRows ++ (penaltyRows ++ (roundingRows ++ furtherRoundingRows)))) setting-rows
+    both functionalRows (inequalityRows ++ (noiseRows ++ (refusalRows ++ (chartRows ++ (settingRows ++ (sideRows ++ (ballRows ++ (slackRows ++ (penaltyRows ++ (roundingRows ++ furtherRoundingRows)))))))))) functional-rows
+    (both inequalityRows (noiseRows ++ (refusalRows ++ (chartRows ++ (settingRows ++ (sideRows ++ (ballRows ++ (slackRows ++ (penaltyRows ++ (roundingRows ++ furtherRoundingRows))))))))) inequality-rows
+    (both noiseRows (refusalRows ++ (chartRows ++ (settingRows ++ (sideRows ++ (ballRows ++ (slackRows ++ (penaltyRows ++ (roundingRows ++ furtherRoundingRows)))))))) noise-rows
+    (both refusalRows (chartRows ++ (settingRows ++ (sideRows ++ (ballRows ++ (slackRows ++ (penaltyRows ++ (roundingRows ++ furtherRoundingRows))))))) refusal-rows
+    (both chartRows (settingRows ++ (sideRows ++ (ballRows ++ (slackRows ++ (penaltyRows ++ (roundingRows ++ furtherRoundingRows)))))) chart-rows
+    (both settingRows (sideRows ++ (ballRows ++ (slackRows ++ (penaltyRows ++ (roundingRows ++ furtherRoundingRows))))) setting-rows
+    (both sideRows (ballRows ++ (slackRows ++ (penaltyRows ++ (roundingRows ++ furtherRoundingRows)))) side-rows
     (both ballRows (slackRows ++ (penaltyRows ++ (roundingRows ++ furtherRoundingRows))) ball-rows
     (both slackRows (penaltyRows ++ (roundingRows ++ furtherRoundingRows)) slack-rows
     (both penaltyRows (roundingRows ++ furtherRoundingRows) penalty-rows
-    (both roundingRows furtherRoundingRows rounding-rows further-rounding-rows)))))))))
+    (both roundingRows furtherRoundingRows rounding-rows further-rounding-rows))))))))))

@@ -6,11 +6,11 @@ use lib.ListN.{length}
 use lib.Ieee.{Float}
 use Rattle.refusals.specs.Said.{Said, said}
 use Rattle.readings.specs.Shape.{firstLength}
+use Rattle.charts.specs.declared.Sum.{Sum}
 use Rattle.cusum.specs.Chart as Cusum
 use Rattle.cusum.specs.RunLength as RunLength
 use Rattle.cusum.specs.declared.Cusum.{Cusum}
 use Rattle.cusum.specs.declared.CusumResult.{CusumResult}
-use Rattle.cusum.specs.declared.Side.{Side}
 use Rattle.ewma.specs.Chart as Ewma
 use Rattle.ewma.specs.declared.Ewma.{Ewma}
 use Rattle.ewma.specs.declared.EwmaResult.{EwmaResult}
@@ -37,7 +37,7 @@ pub data Call : Type 0 where
   resolve : Search → Call
   cusum : Cusum → List Float → List CusumResult → Call
   cusumPoints : Cusum → List Float → List ℕ → Call
-  runLength : Cusum → Float → Side → Call
+  runLength : Cusum → Float → Sum → Call
   ewma : Ewma → List Float → List EwmaResult → Call
   ewmaPoints : Ewma → List Float → List ℕ → Call
   lose : Ball → List Ball → Call
@@ -62,7 +62,7 @@ outcome (search s) = let o = detected (s .strict) (s .settings) (s .run) (s .len
 outcome (resolve s) = resolved (resolvedBy s)
 outcome (cusum c xs entry) = let o = Cusum.analyzed c xs entry in sums (said (o .0)) (o .1)
 outcome (cusumPoints c xs entry) = let o = Cusum.signalled c xs entry in points (said (o .0)) (o .1)
-outcome (runLength c level side) = heard (RunLength.runLength c level side)
+outcome (runLength c level asked) = heard (RunLength.runLength c level asked)
 outcome (ewma c xs entry) = let o = Ewma.analyzed c xs entry in averages (said (o .0)) (o .1)
 outcome (ewmaPoints c xs entry) = let o = Ewma.signalled c xs entry in points (said (o .0)) (o .1)
 outcome (lose b balls) = losing (loseInside b balls)

@@ -1,4 +1,4 @@
--- Rows of our own, Q1 to Q103: each catches a wrong program that the worked examples let pass. Definitions only.
+-- Rows of our own, Q1 to Q118: each catches a wrong program that the worked examples let pass. Definitions only.
 use Prim.Native.Nat.{_-_, _*_, _^_}
 use mathlib.Core.Bool.{true, false}
 use mathlib.Core.List.{List, [], _∷_, _++_}
@@ -9,9 +9,10 @@ use Rattle.refusals.specs.Stated.{plain}
 use Rattle.costs.specs.declared.CostFunction.the-variants.{L2, Normal}
 use Rattle.costs.specs.declared.Penalty.the-variants.{Bic, Custom}
 use Rattle.candidate_balls.specs.declared.Ball.{Ball}
+use Rattle.charts.specs.declared.Side.the-variants.{None, Above, Below, Both}
+use Rattle.charts.specs.declared.Sum.the-variants.{Upper, Lower}
 use Rattle.cusum.specs.Chart as Cusum
 use Rattle.cusum.specs.declared.Cusum.{Cusum}
-use Rattle.cusum.specs.declared.Side.the-variants.{Upper, Lower}
 use Rattle.ewma.specs.Chart as Ewma
 use Rattle.ewma.specs.declared.Ewma.{Ewma}
 use Rattle.worked_examples.specs.Rows.{Row, wholes, tenBillionths, ofPattern, custom, halves, sevens, within, among, plainly, strictly, finds, runsOut, refuses, resolves, gapAt, sumsAre, averagesAre, sumsSignal, averagesSignal, sumsRefuse, averagesRefuse, hears, refusesToHear, ball, ballsFrom, keeps}
@@ -209,11 +210,11 @@ refusalRows =
 unfoldable pub chartRows : List Row
 chartRows =
     -- Q45 a signal resets nothing
-    sumsAre sums (wholes (8 ∷ 0 ∷ [])) ((ratio 15 2, +0, true) ∷ (ofWhole 7, +0, true) ∷ [])
+    sumsAre sums (wholes (8 ∷ 0 ∷ [])) ((ratio 15 2, +0, Above) ∷ (ofWhole 7, +0, Above) ∷ [])
     -- Q46 the lower sum
-    ∷ sumsAre sums (neg (ofWhole 8) ∷ ofWhole 8 ∷ []) ((+0, ratio 15 2, true) ∷ (ratio 15 2, +0, true) ∷ [])
+    ∷ sumsAre sums (neg (ofWhole 8) ∷ ofWhole 8 ∷ []) ((+0, ratio 15 2, Below) ∷ (ratio 15 2, +0, Above) ∷ [])
     -- Q47 infinity less infinity is no number, and the sum 0
-    ∷ sumsAre (Cusum.newOf +0 (ratio 1 (10 ^ 300))) (ratio (10 ^ 300) 1 ∷ neg (ratio (10 ^ 300) 1) ∷ []) ((+∞, +0, true) ∷ (+0, +∞, true) ∷ [])
+    ∷ sumsAre (Cusum.newOf +0 (ratio 1 (10 ^ 300))) (ratio (10 ^ 300) 1 ∷ neg (ratio (10 ^ 300) 1) ∷ []) ((+∞, +0, Above) ∷ (+0, +∞, Below) ∷ [])
     -- Q48 a gap is no signal, and its index is used up
     ∷ sumsSignal sums (ofWhole 8 ∷ nan ∷ ofWhole 8 ∷ []) 2 (0 ∷ 2 ∷ 7 ∷ [])
     -- Q49 16 before 6
@@ -222,16 +223,16 @@ chartRows =
     ∷ sumsRefuse sums tooMany 0 (plain 6)
     -- Q51 4,096 readings are not too many, and a record short
     ∷ sumsRefuse sums (replicate 4096 +0) 4095 (plain 7)
-    -- Q52 the run length of the lower side
+    -- Q52 the run length by the lower sum
     ∷ hears sums (neg (ofWhole 3)) Lower 3
     -- Q53 16 before 8
     ∷ refusesToHear badSums nan Upper (plain 16)
     -- Q54 a level that is not finite
     ∷ refusesToHear sums +∞ Upper (gapAt 0 0)
     -- Q55 a gap is no signal of an EWMA
-    ∷ averagesAre averages (ofWhole 4 ∷ nan ∷ []) ((ofWhole 4, neg (ofWhole 3), ofWhole 3, true) ∷ (ofWhole 4, neg (ofWhole 3), ofWhole 3, false) ∷ [])
+    ∷ averagesAre averages (ofWhole 4 ∷ nan ∷ []) ((ofWhole 4, neg (ofWhole 3), ofWhole 3, Above) ∷ (ofWhole 4, neg (ofWhole 3), ofWhole 3, None) ∷ [])
     -- Q56 limits by the place, from 1: with lambda 0.5 and L 4 the first are -2 and 2
-    ∷ averagesAre (Ewma.withParams +0 (ofWhole 1) (ratio 1 2) (ofWhole 4)) (ofWhole 1 ∷ []) ((ratio 1 2, neg (ofWhole 2), ofWhole 2, false) ∷ [])
+    ∷ averagesAre (Ewma.withParams +0 (ofWhole 1) (ratio 1 2) (ofWhole 4)) (ofWhole 1 ∷ []) ((ratio 1 2, neg (ofWhole 2), ofWhole 2, None) ∷ [])
     -- Q57 the second are beyond 2.125
     ∷ averagesSignal (Ewma.withParams +0 (ofWhole 1) (ratio 1 2) (ofWhole 4)) (ofWhole 0 ∷ ratio 17 4 ∷ []) 0 (7 ∷ 7 ∷ [])
     -- Q58 and below 2.25
@@ -260,7 +261,7 @@ settingRows =
     -- Q95 a sigma of -0
     ∷ sumsRefuse (Cusum.newOf +0 (neg +0)) (wholes (3 ∷ [])) 1 (plain 16)
     -- Q96 a target and a k of -0 are accepted
-    ∷ sumsAre (Cusum.withParams (neg +0) (ofWhole 1) (neg +0) (ofWhole 5)) (wholes (8 ∷ [])) ((ofWhole 8, +0, true) ∷ [])
+    ∷ sumsAre (Cusum.withParams (neg +0) (ofWhole 1) (neg +0) (ofWhole 5)) (wholes (8 ∷ [])) ((ofWhole 8, +0, Above) ∷ [])
     -- Q97 an h of -0
     ∷ refusesToHear (Cusum.withParams +0 (ofWhole 1) (ratio 1 2) (neg +0)) (ofWhole 3) Upper (plain 18)
     -- Q98 15 before 16 of an EWMA, all four, with too many readings and no room
@@ -275,6 +276,41 @@ settingRows =
     ∷ averagesRefuse (Ewma.withParams +0 (ofWhole 1) (neg +0) (ofWhole 3)) (wholes (3 ∷ [])) 1 (plain 17)
     -- Q103 an L of -0
     ∷ averagesRefuse (Ewma.withParams +0 (ofWhole 1) (ofWhole 1) (neg +0)) (wholes (3 ∷ [])) 1 (plain 18)
+    ∷ []
+
+-- ---- the sides of records
+unfoldable pub sideRows : List Row
+sideRows =
+    -- Q104 both sums above h
+    sumsAre sums (ofWhole 20 ∷ neg (ofWhole 10) ∷ []) ((ratio 39 2, +0, Above) ∷ (ofWhole 9, ratio 19 2, Both) ∷ [])
+    -- Q105 both, and then one
+    ∷ sumsAre sums (ofWhole 20 ∷ neg (ofWhole 10) ∷ neg (ofWhole 10) ∷ []) ((ratio 39 2, +0, Above) ∷ (ofWhole 9, ratio 19 2, Both) ∷ (+0, ofWhole 19, Below) ∷ [])
+    -- Q106 the upper sum at h, the lower above it
+    ∷ sumsAre sums (ofWhole 16 ∷ neg (ofWhole 10) ∷ []) ((ratio 31 2, +0, Above) ∷ (ofWhole 5, ratio 19 2, Below) ∷ [])
+    -- Q107 the lower sum at h, the upper above it
+    ∷ sumsAre sums (neg (ofWhole 16) ∷ ofWhole 10 ∷ []) ((+0, ratio 31 2, Below) ∷ (ratio 19 2, ofWhole 5, Above) ∷ [])
+    -- Q108 a gap with both sums above h
+    ∷ sumsAre sums (ofWhole 20 ∷ neg (ofWhole 10) ∷ nan ∷ []) ((ratio 39 2, +0, Above) ∷ (ofWhole 9, ratio 19 2, Both) ∷ (ofWhole 9, ratio 19 2, None) ∷ [])
+    -- Q109 the level 4 is heard by the upper sum at its second reading, with a large lower sum too
+    ∷ sumsAre sums (neg (ofWhole 100) ∷ wholes (4 ∷ 4 ∷ [])) ((+0, ratio 199 2, Below) ∷ (ratio 7 2, ofWhole 95, Below) ∷ (ofWhole 7, ratio 181 2, Both) ∷ [])
+    -- Q110 and -4 by the lower sum, with a large upper one
+    ∷ sumsAre sums (ofWhole 100 ∷ replicate 2 (neg (ofWhole 4))) ((ratio 199 2, +0, Above) ∷ (ofWhole 95, ratio 7 2, Above) ∷ (ratio 181 2, ofWhole 7, Both) ∷ [])
+    -- Q111 every side but none is a signal
+    ∷ sumsSignal sums (ofWhole 20 ∷ neg (ofWhole 10) ∷ neg (ofWhole 10) ∷ []) 3 (0 ∷ 1 ∷ 2 ∷ [])
+    -- Q112 an EWMA below its limits
+    ∷ averagesAre averages (neg (ratio 7 2) ∷ []) ((neg (ratio 7 2), neg (ofWhole 3), ofWhole 3, Below) ∷ [])
+    -- Q113 and at the lower one
+    ∷ averagesAre averages (neg (ofWhole 3) ∷ []) ((neg (ofWhole 3), neg (ofWhole 3), ofWhole 3, None) ∷ [])
+    -- Q114 an infinite L·sigma times a zero width: limits that are no numbers, and no side
+    ∷ averagesAre (Ewma.withParams +0 (ratio (10 ^ 200) 1) (ratio 1 (2 ^ 60)) (ratio (10 ^ 200) 1)) (ofWhole 1 ∷ []) ((ratio 1 (2 ^ 60), nan, nan, None) ∷ [])
+    -- Q115 an EWMA signals on both sides
+    ∷ averagesSignal averages (neg (ratio 7 2) ∷ ofWhole 3 ∷ ratio 7 2 ∷ []) 2 (0 ∷ 2 ∷ 7 ∷ [])
+    -- Q116 none again, once the sums are down
+    ∷ sumsAre sums (ofWhole 8 ∷ neg (ofWhole 4) ∷ []) ((ratio 15 2, +0, Above) ∷ (ofWhole 3, ratio 7 2, None) ∷ [])
+    -- Q117 a statistic that falls is still above
+    ∷ averagesAre averages (ofWhole 4 ∷ ratio 7 2 ∷ []) ((ofWhole 4, neg (ofWhole 3), ofWhole 3, Above) ∷ (ratio 7 2, neg (ofWhole 3), ofWhole 3, Above) ∷ [])
+    -- Q118 the side is by the limits about the target
+    ∷ averagesAre (Ewma.withParams (ofWhole 10) (ofWhole 1) (ofWhole 1) (ofWhole 3)) (wholes (12 ∷ [])) ((ofWhole 12, ofWhole 7, ofWhole 13, None) ∷ [])
     ∷ []
 
 -- ---- the balls of a candidate, of which it keeps 64
@@ -303,4 +339,4 @@ ballRows =
 
 unfoldable pub furtherRows : List Row
 furtherRows =
-    functionalRows ++ (inequalityRows ++ (noiseRows ++ (refusalRows ++ (chartRows ++ (settingRows ++ (ballRows ++ (slackRows ++ (penaltyRows ++ (roundingRows ++ furtherRoundingRows)))))))))
+    functionalRows ++ (inequalityRows ++ (noiseRows ++ (refusalRows ++ (chartRows ++ (settingRows ++ (sideRows ++ (ballRows ++ (slackRows ++ (penaltyRows ++ (roundingRows ++ furtherRoundingRows))))))))))

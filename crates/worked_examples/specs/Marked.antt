@@ -1,14 +1,14 @@
 -- The worked examples P1 to P13 of docs/RULES.md. Section 9. Definitions only.
-use mathlib.Core.Bool.{true, false}
 use mathlib.Core.List.{List, [], _∷_}
 use lib.Ieee.{Float, nan, neg}
 use Rattle.floats.specs.Numbers.{+0, ofWhole, ratio}
 use Rattle.refusals.specs.Stated.{plain}
 use Rattle.costs.specs.declared.CostFunction.the-variants.{L2}
 use Rattle.costs.specs.declared.Penalty.the-variants.{Bic}
+use Rattle.charts.specs.declared.Side.the-variants.{None, Above}
+use Rattle.charts.specs.declared.Sum.the-variants.{Upper}
 use Rattle.cusum.specs.Chart as Cusum
 use Rattle.cusum.specs.declared.Cusum.{Cusum}
-use Rattle.cusum.specs.declared.Side.the-variants.{Upper}
 use Rattle.ewma.specs.Chart as Ewma
 use Rattle.ewma.specs.declared.Ewma.{Ewma}
 use Rattle.worked_examples.specs.Rows.{Row, wholes, custom, halves, plainly, strictly, finds, runsOut, refuses, resolves, gapAt, sumsAre, averagesAre, hears}
@@ -49,13 +49,13 @@ markedRows =
     -- P9 plain, no cuts; strict, refusal 8 at 0, 1
     ∷ finds (plainly L2 (custom 1) 2 gap 3) 0 (7 ∷ 7 ∷ [])
     ∷ refuses (strictly L2 (custom 1) 2 gap 3) (gapAt 0 1)
-    -- P10 upper 2.5, 5, 7.5; signal only at index 2
-    ∷ sumsAre sums (wholes (3 ∷ 3 ∷ 3 ∷ [])) ((ratio 5 2, +0, false) ∷ (ofWhole 5, +0, false) ∷ (ratio 15 2, +0, true) ∷ [])
+    -- P10 upper 2.5, 5, 7.5; above only at index 2
+    ∷ sumsAre sums (wholes (3 ∷ 3 ∷ 3 ∷ [])) ((ratio 5 2, +0, None) ∷ (ofWhole 5, +0, None) ∷ (ratio 15 2, +0, Above) ∷ [])
     -- P11 run length of level 3, upper: 3
     ∷ hears sums (ofWhole 3) Upper 3
-    -- P12 upper 7.5, 7.5; signal, no signal
-    ∷ sumsAre sums (ofWhole 8 ∷ nan ∷ []) ((ratio 15 2, +0, true) ∷ (ratio 15 2, +0, false) ∷ [])
-    -- P13 limits -3 and 3; 3 is no signal, 3.5 is one
-    ∷ averagesAre averages (ofWhole 3 ∷ []) ((ofWhole 3, neg (ofWhole 3), ofWhole 3, false) ∷ [])
-    ∷ averagesAre averages (ratio 7 2 ∷ []) ((ratio 7 2, neg (ofWhole 3), ofWhole 3, true) ∷ [])
+    -- P12 upper 7.5, 7.5; above, none
+    ∷ sumsAre sums (ofWhole 8 ∷ nan ∷ []) ((ratio 15 2, +0, Above) ∷ (ratio 15 2, +0, None) ∷ [])
+    -- P13 limits -3 and 3; 3 is none, 3.5 above
+    ∷ averagesAre averages (ofWhole 3 ∷ []) ((ofWhole 3, neg (ofWhole 3), ofWhole 3, None) ∷ [])
+    ∷ averagesAre averages (ratio 7 2 ∷ []) ((ratio 7 2, neg (ofWhole 3), ofWhole 3, Above) ∷ [])
     ∷ []

@@ -12,9 +12,11 @@ use Rattle.readings.specs.Shape.{firstLength}
 use Rattle.costs.specs.declared.CostFunction.{CostFunction}
 use Rattle.costs.specs.declared.Penalty.{Penalty}
 use Rattle.costs.specs.declared.Penalty.the-variants.{Custom}
+use Rattle.charts.specs.declared.Side.{Side}
+use Rattle.charts.specs.declared.Side.the-variants.{Both}
+use Rattle.charts.specs.declared.Sum.{Sum}
 use Rattle.cusum.specs.declared.Cusum.{Cusum}
 use Rattle.cusum.specs.declared.CusumResult.{CusumResult}
-use Rattle.cusum.specs.declared.Side.{Side}
 use Rattle.ewma.specs.declared.Ewma.{Ewma}
 use Rattle.ewma.specs.declared.EwmaResult.{EwmaResult}
 use Rattle.candidate.specs.Boxes.{ballOf}
@@ -107,26 +109,26 @@ gapAt channel index = record { number = 8; values = channel ∷ index ∷ [] }
 
 -- what their slices hold
 abbrev pub lentSums : CusumResult
-lentSums = record { «s_upper» = ofWhole 7; «s_lower» = ofWhole 7; signal = true; index = record { 0 = 7 } }
+lentSums = record { «s_upper» = ofWhole 7; «s_lower» = ofWhole 7; side = Both; index = record { 0 = 7 } }
 
 abbrev pub lentAverage : EwmaResult
-lentAverage = record { ewma = ofWhole 7; ucl = ofWhole 7; lcl = ofWhole 7; signal = true; index = record { 0 = 7 } }
+lentAverage = record { ewma = ofWhole 7; ucl = ofWhole 7; lcl = ofWhole 7; side = Both; index = record { 0 = 7 } }
 
--- records by the upper sum, the lower sum and the signal; the first has the index `i`, the next `i + 1`
-unfoldable pub sumsFrom : ℕ → List (Float × Float × Bool) → List CusumResult
+-- records by the upper sum, the lower sum and the side; the first has the index `i`, the next `i + 1`
+unfoldable pub sumsFrom : ℕ → List (Float × Float × Side) → List CusumResult
 sumsFrom i [] = []
-sumsFrom i ((upper, lower, signal) ∷ shown) = record { «s_upper» = upper; «s_lower» = lower; signal = signal; index = record { 0 = i } } ∷ sumsFrom (suc i) shown
+sumsFrom i ((upper, lower, side) ∷ shown) = record { «s_upper» = upper; «s_lower» = lower; side = side; index = record { 0 = i } } ∷ sumsFrom (suc i) shown
 
--- by the statistic, the lower limit, the upper limit and the signal
-unfoldable pub averagesFrom : ℕ → List (Float × Float × Float × Bool) → List EwmaResult
+-- by the statistic, the lower limit, the upper limit and the side
+unfoldable pub averagesFrom : ℕ → List (Float × Float × Float × Side) → List EwmaResult
 averagesFrom i [] = []
-averagesFrom i ((statistic, lower, upper, signal) ∷ shown) = record { ewma = statistic; ucl = upper; lcl = lower; signal = signal; index = record { 0 = i } } ∷ averagesFrom (suc i) shown
+averagesFrom i ((statistic, lower, upper, side) ∷ shown) = record { ewma = statistic; ucl = upper; lcl = lower; side = side; index = record { 0 = i } } ∷ averagesFrom (suc i) shown
 
 -- `analyze` with one record more than it needs, which stays as it was
-abbrev pub sumsAre : Cusum → List Float → List (Float × Float × Bool) → Row
+abbrev pub sumsAre : Cusum → List Float → List (Float × Float × Side) → Row
 sumsAre c xs shown = record { call = cusum c xs (replicate (length xs + 1) lentSums); expected = sums (answered (length xs ∷ [])) (sumsFrom 0 shown ++ (lentSums ∷ [])) }
 
-abbrev pub averagesAre : Ewma → List Float → List (Float × Float × Float × Bool) → Row
+abbrev pub averagesAre : Ewma → List Float → List (Float × Float × Float × Side) → Row
 averagesAre c xs shown =
     record { call = ewma c xs (replicate (length xs + 1) lentAverage); expected = averages (answered (length xs ∷ [])) (averagesFrom 0 shown ++ (lentAverage ∷ [])) }
 
@@ -145,11 +147,11 @@ abbrev pub averagesRefuse : Ewma → List Float → ℕ → Stated → Row
 averagesRefuse c xs room reason = record { call = ewma c xs (replicate room lentAverage); expected = averages (refused reason) (replicate room lentAverage) }
 
 -- the first reading at which a level is heard, and a refusal
-abbrev pub hears : Cusum → Float → Side → ℕ → Row
-hears c level side reading = record { call = runLength c level side; expected = heard (answered (reading ∷ [])) }
+abbrev pub hears : Cusum → Float → Sum → ℕ → Row
+hears c level asked reading = record { call = runLength c level asked; expected = heard (answered (reading ∷ [])) }
 
-abbrev pub refusesToHear : Cusum → Float → Side → Stated → Row
-refusesToHear c level side reason = record { call = runLength c level side; expected = heard (refused reason) }
+abbrev pub refusesToHear : Cusum → Float → Sum → Stated → Row
+refusesToHear c level asked reason = record { call = runLength c level asked; expected = heard (refused reason) }
 
 -- ---- balls
 

@@ -88,8 +88,8 @@ static word chart(int function) {
     f64 a = value(), b = value(), c = value(), d = value();
     if (function == 6) {
         f64 level = value();
-        u32 side = number();
-        return overbrindle_cusum_run_length(a, b, c, d, level, side, one());
+        u32 sum = number();
+        return overbrindle_cusum_run_length(a, b, c, d, level, sum, one());
     }
     struct slice r = slice(8), x = slice(8);
     if (function == 5) return overbrindle_cusum_signal_points(a, b, c, d, r.things, r.count, x.things, x.count, one());

@@ -160,9 +160,9 @@ u32 overbrindle_ewma_signal_points(f64 a, f64 b, f64 c, f64 d, const f64 *r, wor
     return points(8, a, b, c, d, r, rn, p, pn, count);
 }
 
-u32 overbrindle_cusum_run_length(f64 a, f64 b, f64 c, f64 d, f64 level, u32 side, word *reading) {
+u32 overbrindle_cusum_run_length(f64 a, f64 b, f64 c, f64 d, f64 level, u32 sum, word *reading) {
     settings(6, a, b, c, d);
-    value(level), number(side);
+    value(level), number(sum);
     word place = one(reading);
     u32 answer = call();
     one_taken(reading, place);
@@ -173,10 +173,10 @@ u32 overbrindle_cusum_analyze(f64 a, f64 b, f64 c, f64 d, const f64 *r, word rn,
                               word sn, word *i, word in, word *count) {
     settings(4, a, b, c, d);
     word readings = things(r, rn, 8), first = things(x, xn, 8), second = things(y, yn, 8);
-    word signal = things(s, sn, 1), index = things(i, in, 8), place = one(count);
+    word side = things(s, sn, 1), index = things(i, in, 8), place = one(count);
     u32 answer = call();
     kept(readings, rn);
-    taken(x, first, xn, 8), taken(y, second, yn, 8), taken(s, signal, sn, 1), taken(i, index, in, 8);
+    taken(x, first, xn, 8), taken(y, second, yn, 8), taken(s, side, sn, 1), taken(i, index, in, 8);
     one_taken(count, place);
     return answer;
 }
@@ -184,11 +184,11 @@ u32 overbrindle_ewma_analyze(f64 a, f64 b, f64 c, f64 d, const f64 *r, word rn, 
                              word zn, u8 *s, word sn, word *i, word in, word *count) {
     settings(7, a, b, c, d);
     word readings = things(r, rn, 8), first = things(x, xn, 8), second = things(y, yn, 8), third = things(z, zn, 8);
-    word signal = things(s, sn, 1), index = things(i, in, 8), place = one(count);
+    word side = things(s, sn, 1), index = things(i, in, 8), place = one(count);
     u32 answer = call();
     kept(readings, rn);
     taken(x, first, xn, 8), taken(y, second, yn, 8), taken(z, third, zn, 8);
-    taken(s, signal, sn, 1), taken(i, index, in, 8);
+    taken(s, side, sn, 1), taken(i, index, in, 8);
     one_taken(count, place);
     return answer;
 }

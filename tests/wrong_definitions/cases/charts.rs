@@ -2,7 +2,7 @@
 //! than a chart takes readings.
 
 use crate::stored::Stored;
-use crate::{Call, Chart, CusumResult, EwmaResult, Outcome, Said, Side, Stated};
+use crate::{Call, Chart, CusumResult, EwmaResult, Outcome, Said, Side, Stated, Sum};
 use std::ops::ControlFlow;
 use std::rc::Rc;
 
@@ -13,14 +13,14 @@ const UNUSED: usize = 9999;
 const UNUSED_SUMS: CusumResult = CusumResult {
     s_upper: -7.0,
     s_lower: -8.0,
-    signal: true,
+    side: Side::Both,
     index: UNUSED,
 };
 const UNUSED_AVERAGE: EwmaResult = EwmaResult {
     ewma: -7.0,
     ucl: -8.0,
     lcl: -9.0,
-    signal: true,
+    side: Side::Both,
     index: UNUSED,
 };
 
@@ -67,6 +67,17 @@ fn lent<T: Clone>(results: &[T], unused: T) -> Vec<T> {
     left
 }
 
+/// The side that a record's byte stands for. Any other byte is an error of the file.
+fn side_of(byte: u8) -> Side {
+    match byte {
+        0 => Side::None,
+        1 => Side::Above,
+        2 => Side::Below,
+        3 => Side::Both,
+        other => panic!("no side has the byte {other}"),
+    }
+}
+
 fn next_sums(stored: &mut Stored, series: &Series) -> Vec<CusumResult> {
     let count = if series.refusal == 0 {
         series.readings.len()
@@ -78,7 +89,7 @@ fn next_sums(stored: &mut Stored, series: &Series) -> Vec<CusumResult> {
         CusumResult {
             s_upper,
             s_lower,
-            signal: stored.reader.number(1) == 1,
+            side: side_of(stored.reader.letter()),
             index: stored.reader.size(2),
         }
     };
@@ -97,7 +108,7 @@ fn next_averages(stored: &mut Stored, series: &Series) -> Vec<EwmaResult> {
             ewma,
             ucl,
             lcl,
-            signal: stored.reader.number(1) == 1,
+            side: side_of(stored.reader.letter()),
             index: stored.reader.size(2),
         }
     };
@@ -146,7 +157,7 @@ fn ewma_series(stored: &mut Stored, chart: Chart) -> ControlFlow<()> {
 }
 
 /// A level that is not heard is stored as reading 0; 8 has the place 0, 0.
-fn run_length(stored: &mut Stored, chart: Chart, side: Side) -> ControlFlow<()> {
+fn run_length(stored: &mut Stored, chart: Chart, sum: Sum) -> ControlFlow<()> {
     let level = stored.reader.float();
     let refusal = stored.reader.size(1);
     let heard = stored.reader.size(2);
@@ -156,7 +167,7 @@ fn run_length(stored: &mut Stored, chart: Chart, side: Side) -> ControlFlow<()> 
         (8, _) => refused(8, vec![0, 0]),
         (number, _) => refused(number, vec![]),
     };
-    stored.case(Call::RunLength(chart, level, side), Outcome::Said(said))
+    stored.case(Call::RunLength(chart, level, sum), Outcome::Said(said))
 }
 
 pub fn cusum_cases(stored: &mut Stored) -> ControlFlow<()> {
@@ -167,8 +178,8 @@ pub fn cusum_cases(stored: &mut Stored) -> ControlFlow<()> {
         let by_new = letter == b'n';
         let chart = Chart { by_new, values };
         match letter {
-            b'u' => run_length(stored, chart, Side::Upper)?,
-            b'l' => run_length(stored, chart, Side::Lower)?,
+            b'u' => run_length(stored, chart, Sum::Upper)?,
+            b'l' => run_length(stored, chart, Sum::Lower)?,
             _ => cusum_series(stored, chart)?,
         }
     }

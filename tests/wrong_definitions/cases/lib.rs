@@ -91,8 +91,18 @@ pub struct Chart {
     pub values: [f64; 4],
 }
 
+/// On which sides a record signals.
 #[derive(Clone, Copy, PartialEq, Debug)]
 pub enum Side {
+    None,
+    Above,
+    Below,
+    Both,
+}
+
+/// The sum of a CUSUM chart that a run length asks.
+#[derive(Clone, Copy, PartialEq, Debug)]
+pub enum Sum {
     Upper,
     Lower,
 }
@@ -101,14 +111,14 @@ pub enum Side {
 pub struct CusumResult {
     pub s_upper: f64,
     pub s_lower: f64,
-    pub signal: bool,
+    pub side: Side,
     pub index: usize,
 }
 
 impl PartialEq for CusumResult {
     fn eq(&self, other: &CusumResult) -> bool {
         let sums = |r: &CusumResult| [r.s_upper, r.s_lower];
-        same(&sums(self), &sums(other)) && (self.signal, self.index) == (other.signal, other.index)
+        same(&sums(self), &sums(other)) && (self.side, self.index) == (other.side, other.index)
     }
 }
 
@@ -117,15 +127,14 @@ pub struct EwmaResult {
     pub ewma: f64,
     pub ucl: f64,
     pub lcl: f64,
-    pub signal: bool,
+    pub side: Side,
     pub index: usize,
 }
 
 impl PartialEq for EwmaResult {
     fn eq(&self, other: &EwmaResult) -> bool {
         let values = |r: &EwmaResult| [r.ewma, r.ucl, r.lcl];
-        same(&values(self), &values(other))
-            && (self.signal, self.index) == (other.signal, other.index)
+        same(&values(self), &values(other)) && (self.side, self.index) == (other.side, other.index)
     }
 }
 
@@ -173,7 +182,7 @@ pub enum Call {
     Resolve(Search),
     Cusum(Chart, Rc<Vec<f64>>, Vec<CusumResult>),
     CusumPoints(Chart, Rc<Vec<f64>>, Vec<usize>),
-    RunLength(Chart, f64, Side),
+    RunLength(Chart, f64, Sum),
     Ewma(Chart, Rc<Vec<f64>>, Vec<EwmaResult>),
     EwmaPoints(Chart, Rc<Vec<f64>>, Vec<usize>),
     Lose(Ball, Vec<Ball>),

@@ -3,7 +3,7 @@
 
 use crate::naturals::{nearest, Natural};
 use crate::{Areas, Ball, Call, Chart, Cost, CusumResult, EwmaResult, Outcome};
-use crate::{Penalty, Said, Search, Settings, Side, Stated};
+use crate::{Penalty, Said, Search, Settings, Side, Stated, Sum};
 use std::rc::Rc;
 
 #[derive(Clone, Debug)]
@@ -20,6 +20,7 @@ pub enum Value {
     Stated(Stated),
     Chart(Chart),
     Side(Side),
+    Sum(Sum),
     Ball(Ball),
     /// A call and what it is to come to, with the row's name once it is known.
     Row(String, Box<(Call, Outcome)>),
@@ -83,8 +84,12 @@ pub static WORDS: &[Word] = &[
     ("Cusum.withParams", 4, |v| chart(false, v)),
     ("Ewma.newOf", 2, |v| chart(true, v)),
     ("Ewma.withParams", 4, |v| chart(false, v)),
-    ("Upper", 0, |_| Value::Side(Side::Upper)),
-    ("Lower", 0, |_| Value::Side(Side::Lower)),
+    ("None", 0, |_| Value::Side(Side::None)),
+    ("Above", 0, |_| Value::Side(Side::Above)),
+    ("Below", 0, |_| Value::Side(Side::Below)),
+    ("Both", 0, |_| Value::Side(Side::Both)),
+    ("Upper", 0, |_| Value::Sum(Sum::Upper)),
+    ("Lower", 0, |_| Value::Sum(Sum::Lower)),
     ("sumsAre", 3, |v| sums_are(&v[0], &v[1], &v[2])),
     ("averagesAre", 3, |v| averages_are(&v[0], &v[1], &v[2])),
     ("sumsSignal", 4, |v| {
@@ -180,6 +185,20 @@ fn charted(value: &Value) -> Chart {
     match value {
         Value::Chart(chart) => *chart,
         other => panic!("a chart, and not {other:?}"),
+    }
+}
+
+fn side(value: &Value) -> Side {
+    match value {
+        Value::Side(side) => *side,
+        other => panic!("a side, and not {other:?}"),
+    }
+}
+
+fn sum(value: &Value) -> Sum {
+    match value {
+        Value::Sum(sum) => *sum,
+        other => panic!("a sum, and not {other:?}"),
     }
 }
 
@@ -310,7 +329,7 @@ fn stated(number: usize, values: Vec<usize>) -> Value {
 const LENT_SUMS: CusumResult = CusumResult {
     s_upper: 7.0,
     s_lower: 7.0,
-    signal: true,
+    side: Side::Both,
     index: 7,
 };
 
@@ -318,7 +337,7 @@ const LENT_AVERAGE: EwmaResult = EwmaResult {
     ewma: 7.0,
     ucl: 7.0,
     lcl: 7.0,
-    signal: true,
+    side: Side::Both,
     index: 7,
 };
 
@@ -340,7 +359,7 @@ fn sums_are(chart: &Value, xs: &Value, shown: &Value) -> Value {
         .map(|(index, r)| CusumResult {
             s_upper: float(&tuple(r)[0]),
             s_lower: float(&tuple(r)[1]),
-            signal: truth(&tuple(r)[2]),
+            side: side(&tuple(r)[2]),
             index,
         })
         .collect();
@@ -349,7 +368,7 @@ fn sums_are(chart: &Value, xs: &Value, shown: &Value) -> Value {
     row(call, Outcome::Sums(said, left))
 }
 
-/// By the statistic, the lower limit, the upper limit and the signal.
+/// By the statistic, the lower limit, the upper limit and the side.
 fn averages_are(chart: &Value, xs: &Value, shown: &Value) -> Value {
     let readings = floats(xs);
     let said = Said::Answered(vec![readings.len()]);
@@ -360,7 +379,7 @@ fn averages_are(chart: &Value, xs: &Value, shown: &Value) -> Value {
             ewma: float(&tuple(r)[0]),
             lcl: float(&tuple(r)[1]),
             ucl: float(&tuple(r)[2]),
-            signal: truth(&tuple(r)[3]),
+            side: side(&tuple(r)[3]),
             index,
         })
         .collect();
@@ -379,10 +398,7 @@ fn signal(call: fn(Chart, Rc<Vec<f64>>, Vec<usize>) -> Call, v: &[Value]) -> Val
 }
 
 fn hear(v: &[Value], said: Said) -> Value {
-    let Value::Side(side) = &v[2] else {
-        panic!("a side, and not {:?}", v[2]);
-    };
-    let call = Call::RunLength(charted(&v[0]), float(&v[1]), *side);
+    let call = Call::RunLength(charted(&v[0]), float(&v[1]), sum(&v[2]));
     row(call, Outcome::Said(said))
 }
 

@@ -1,7 +1,7 @@
 //! `crates/worked_examples/specs`: Calls, and what stored cases ask besides.
 
 use crate::candidate::lose_inside;
-use crate::charts::{analyzed, points, signalled};
+use crate::charts::{analyzed, points, signalled, signals};
 use crate::costs::{area_cost, l2_cost, normal_cost, penalty_of, segment_of};
 use crate::cuts_answer::output;
 use crate::elementary::{ln, powi, sqrt};
@@ -22,8 +22,8 @@ pub fn outcome(call: &Call) -> Outcome {
         Call::Resolve(s) => Outcome::Values(vec![penalty_value(asked(s))]),
         Call::Cusum(c, xs, entry) => cusum_outcome(*c, xs, entry),
         Call::CusumPoints(c, xs, entry) => cusum_points(*c, xs, entry),
-        Call::RunLength(c, level, side) => {
-            Outcome::Said(cusum::run_length(&cusum::made(*c), *level, *side))
+        Call::RunLength(c, level, sum) => {
+            Outcome::Said(cusum::run_length(&cusum::made(*c), *level, *sum))
         }
         Call::Ewma(c, xs, entry) => ewma_outcome(*c, xs, entry),
         Call::EwmaPoints(c, xs, entry) => ewma_points(*c, xs, entry),
@@ -41,7 +41,7 @@ fn cusum_outcome(chart: Chart, xs: &[f64], entry: &[CusumResult]) -> Outcome {
 
 fn cusum_points(chart: Chart, xs: &[f64], entry: &[usize]) -> Outcome {
     let c = cusum::made(chart);
-    let found = points(&cusum::records(&c, xs), |r| r.signal);
+    let found = points(&cusum::records(&c, xs), |r| signals(r.side));
     let (said, left) = signalled(&cusum::tests_of(&c), xs.len(), &found, entry);
     Outcome::Points(said, left)
 }
@@ -55,7 +55,7 @@ fn ewma_outcome(chart: Chart, xs: &[f64], entry: &[EwmaResult]) -> Outcome {
 
 fn ewma_points(chart: Chart, xs: &[f64], entry: &[usize]) -> Outcome {
     let c = ewma::made(chart);
-    let found = points(&ewma::records(&c, xs), |r| r.signal);
+    let found = points(&ewma::records(&c, xs), |r| signals(r.side));
     let (said, left) = signalled(&ewma::tests_of(&c), xs.len(), &found, entry);
     Outcome::Points(said, left)
 }

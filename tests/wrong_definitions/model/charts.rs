@@ -1,8 +1,30 @@
-//! `crates/charts/specs`: Runs, Settings, Answers, Outcomes.
+//! `crates/charts/specs`: Sides, Runs, Settings, Answers, Outcomes.
 
 use crate::areas::rest_of;
 use crate::refusals::{counted, Refusal, Test};
-use cases::Said;
+use cases::{Said, Side};
+
+// ---- Sides
+
+/// By whether a record signals above and below.
+pub fn side_of(above: bool, below: bool) -> Side {
+    match (above, below) {
+        (true, true) => Side::Both,
+        (true, false) => Side::Above,
+        (false, true) => Side::Below,
+        (false, false) => Side::None,
+    }
+}
+
+/// Whether that is a signal, the Rust's yes or no.
+pub fn signals(side: Side) -> bool {
+    match side {
+        Side::None => false,
+        Side::Above => true,
+        Side::Below => true,
+        Side::Both => true,
+    }
+}
 
 // ---- Runs
 

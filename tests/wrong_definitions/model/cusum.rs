@@ -1,9 +1,9 @@
 //! `crates/cusum/specs`: Chart, RunLength.
 
-use crate::charts::{setting_tests, InRange};
+use crate::charts::{setting_tests, side_of, InRange};
 use crate::floats::{finite, larger};
 use crate::refusals::{refusing, tried, Refusal, Test};
-use cases::{Chart, CusumResult, Said, Side};
+use cases::{Chart, CusumResult, Said, Side, Sum};
 
 // ---- Chart
 
@@ -57,12 +57,12 @@ fn score(c: &Cusum, x: f64) -> f64 {
     (x - c.target) / c.sigma
 }
 
-/// The record of a chart whose sums are now these.
+/// The record of a chart whose sums are now these: the upper one signals above, the lower one below.
 fn moved(c: &Cusum, index: usize, upper: f64, lower: f64) -> CusumResult {
     CusumResult {
         s_upper: upper,
         s_lower: lower,
-        signal: c.h < upper || c.h < lower,
+        side: side_of(c.h < upper, c.h < lower),
         index,
     }
 }
@@ -76,7 +76,7 @@ fn step_of(c: &Cusum, before: CusumResult, index: usize, x: f64) -> CusumResult 
         moved(c, index, upper, lower)
     } else {
         CusumResult {
-            signal: false,
+            side: Side::None,
             index,
             ..before
         }
@@ -87,7 +87,7 @@ fn step_of(c: &Cusum, before: CusumResult, index: usize, x: f64) -> CusumResult 
 const FRESH: CusumResult = CusumResult {
     s_upper: 0.0,
     s_lower: 0.0,
-    signal: false,
+    side: Side::None,
     index: 0,
 };
 
@@ -103,20 +103,20 @@ pub fn records(c: &Cusum, xs: &[f64]) -> Vec<CusumResult> {
 
 // ---- RunLength
 
-/// The asked side's sum of a record.
-fn sum_of(side: Side, r: &CusumResult) -> f64 {
-    match side {
-        Side::Upper => r.s_upper,
-        Side::Lower => r.s_lower,
+/// The asked sum of a record.
+fn sum_of(sum: Sum, r: &CusumResult) -> f64 {
+    match sum {
+        Sum::Upper => r.s_upper,
+        Sum::Lower => r.s_lower,
     }
 }
 
 /// The first reading, 1 to 4,096, at which a fresh chart fed one level has the sum above h; or none.
-fn heard(c: &Cusum, v: f64, side: Side) -> Vec<usize> {
+fn heard(c: &Cusum, v: f64, sum: Sum) -> Vec<usize> {
     let mut before = FRESH;
     for m in 0..4096 {
         before = step_of(c, before, m, v);
-        if c.h < sum_of(side, &before) {
+        if c.h < sum_of(sum, &before) {
             return vec![m + 1];
         }
     }
@@ -124,8 +124,8 @@ fn heard(c: &Cusum, v: f64, side: Side) -> Vec<usize> {
 }
 
 /// The tests of the settings, then 8, at 0, 0, and then the reading.
-pub fn run_length(c: &Cusum, v: f64, side: Side) -> Said {
+pub fn run_length(c: &Cusum, v: f64, sum: Sum) -> Said {
     let level = [(!finite(v), Refusal::NonFinite(0, 0))];
     let tests = [&tests_of(c)[..], &level].concat();
-    tried(refusing, &tests, || Said::Answered(heard(c, v, side)))
+    tried(refusing, &tests, || Said::Answered(heard(c, v, sum)))
 }

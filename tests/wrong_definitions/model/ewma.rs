@@ -1,10 +1,10 @@
 //! `crates/ewma/specs`: Chart.
 
-use crate::charts::{setting_tests, InRange};
+use crate::charts::{setting_tests, side_of, InRange};
 use crate::elementary::{powi, sqrt};
 use crate::floats::finite;
 use crate::refusals::Test;
-use cases::{Chart, EwmaResult};
+use cases::{Chart, EwmaResult, Side};
 
 #[derive(Clone, Copy)]
 pub struct Ewma {
@@ -65,19 +65,19 @@ fn half_width(c: &Ewma, place: usize) -> f64 {
 }
 
 /// The record of a statistic with limits so far from the target.
-fn within(c: &Ewma, index: usize, half: f64, signal: bool, ewma: f64) -> EwmaResult {
+fn within(c: &Ewma, index: usize, half: f64, side: Side, ewma: f64) -> EwmaResult {
     EwmaResult {
         ewma,
         ucl: c.target + half,
         lcl: c.target - half,
-        signal,
+        side,
         index,
     }
 }
 
-/// Whether a statistic is strictly outside the limits.
-fn outside(c: &Ewma, half: f64, ewma: f64) -> bool {
-    c.target + half < ewma || ewma < c.target - half
+/// On which side a statistic is strictly outside the limits.
+fn outside(c: &Ewma, half: f64, ewma: f64) -> Side {
+    side_of(c.target + half < ewma, ewma < c.target - half)
 }
 
 /// The statistic moves on to a reading: lambda·x + (1 - lambda)·before.
@@ -85,25 +85,34 @@ fn averaged(c: &Ewma, before: f64, x: f64) -> f64 {
     c.lambda * x + (1.0 - c.lambda) * before
 }
 
-/// The record of the reading x after another statistic; a gap carries it forward, without a signal.
-fn step_of(c: &Ewma, before: f64, index: usize, x: f64) -> EwmaResult {
+/// The record of the reading x after another record; a gap carries the statistic forward, without a signal.
+fn step_of(c: &Ewma, before: EwmaResult, index: usize, x: f64) -> EwmaResult {
     let half = half_width(c, place_of(index));
-    let ewma = averaged(c, before, x);
+    let ewma = averaged(c, before.ewma, x);
     if finite(x) {
         within(c, index, half, outside(c, half, ewma), ewma)
     } else {
-        within(c, index, half, false, before)
+        within(c, index, half, Side::None, before.ewma)
     }
 }
 
 /// Before the first reading the statistic is the target.
+fn fresh(c: &Ewma) -> EwmaResult {
+    EwmaResult {
+        ewma: c.target,
+        ucl: c.target,
+        lcl: c.target,
+        side: Side::None,
+        index: 0,
+    }
+}
+
 pub fn records(c: &Ewma, xs: &[f64]) -> Vec<EwmaResult> {
     let mut records = Vec::new();
-    let mut before = c.target;
+    let mut before = fresh(c);
     for (i, &x) in xs.iter().enumerate() {
-        let record = step_of(c, before, i, x);
-        before = record.ewma;
-        records.push(record);
+        before = step_of(c, before, i, x);
+        records.push(before);
     }
     records
 }

@@ -1,8 +1,8 @@
 -- `c_answers::heard` meets its contract. Assumes nothing.
 use mathlib.Core.Path.{sym, ap, _∙_}
 use borrow.Author.Needs.{needs}
-use Rattle.cusum.specs.declared.Heard.{Heard}
-use Rattle.cusum.specs.RunLength.{heardAs}
+use Rattle.charts.specs.declared.Heard.{Heard}
+use Rattle.charts.specs.Hearing.{heardAs}
 use Rattle.c_answers.specs.Told.{toldOf, briefly, countedOf}
 use Rattle.c_answers.proofs.heard.Statement.{statement}
 use Rattle.c_answers.proofs.heard.Tie as tie

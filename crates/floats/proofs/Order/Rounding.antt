@@ -42,7 +42,7 @@ unfolding odd
 odd-clear d zero k l = tt
 odd-clear d (suc q) k l = tt
 
-units-clear : (f : Format) (q k : ℕ) → T (clear (units f false q k))
+pub units-clear : (f : Format) (q k : ℕ) → T (clear (units f false q k))
 unfolding units
 units-clear f q k = go (ltb (q * 2 ^ k) (2 ^ (low f + suc (emax f))))
   where

@@ -13,16 +13,16 @@ use Rattle.charts.proofs.Columns.{Going, not-gone}
 use Rattle.cusum.specs.Chart.{testsOf, shownOf, startState, nextState}
 use Rattle.c_answers.specs.Told.{countedOf}
 use Rattle.c_charts.specs.CusumColumns.{roomOf}
-use Rattle.c_charts.proofs.CusumLaws.{Filled, Room, arrays-are, written-room, upper-length, lower-length, signal-length, index-length, all-done, one-more}
+use Rattle.c_charts.proofs.CusumLaws.{Filled, Room, arrays-are, written-room, upper-length, lower-length, side-length, index-length, all-done, one-more}
 use Rattle.c_charts.proofs.cusum_columns.cusum_analyze.Statement.{statement}
 use Rattle.c_charts.proofs.cusum_columns.cusum_analyze.Tie as tie
 
 abbrev Inv-loop : tie.InvT-loop
-Inv-loop chart «data» s-upper₀ s-lower₀ signal₀ index₀ room answer n state₀ i₀ s-upper s-lower signal index state i =
-    Going shownOf startState nextState chart «data» n state i × Filled chart «data» i s-upper₀ s-upper s-lower₀ s-lower signal₀ signal index₀ index
+Inv-loop chart «data» s-upper₀ s-lower₀ side₀ index₀ room answer n state₀ i₀ s-upper s-lower side index state i =
+    Going shownOf startState nextState chart «data» n state i × Filled chart «data» i s-upper₀ s-upper s-lower₀ s-lower side₀ side index₀ index
 
 abbrev μ-loop : tie.MeasureT-loop
-μ-loop chart «data» s-upper₀ s-lower₀ signal₀ index₀ room answer n state₀ i₀ s-upper s-lower signal index state i = n - i
+μ-loop chart «data» s-upper₀ s-lower₀ side₀ index₀ room answer n state₀ i₀ s-upper s-lower side index state i = n - i
 
 shortest-requires : tie.Need-shortest-requires Inv-loop μ-loop
 shortest-requires c κs = tt
@@ -37,19 +37,19 @@ start-requires : tie.Need-start-requires Inv-loop μ-loop
 start-requires c κs = tt
 
 loop-holds : tie.Need-loop-holds Inv-loop μ-loop
-loop-holds c = (rw (c .start .ensures) (not-gone shownOf startState nextState _ _ _), record { upper-left = refl; lower-left = refl; signal-left = refl; index-left = refl })
+loop-holds c = (rw (c .start .ensures) (not-gone shownOf startState nextState _ _ _), record { upper-left = refl; lower-left = refl; side-left = refl; index-left = refl })
 
 following-requires : tie.Need-following-requires Inv-loop μ-loop
 following-requires c κs = tt
 
 -- the answer, and that its records have room
-answered : (c : tie.At-loop Inv-loop μ-loop) → let a = c .before .before .before .before .before .before .before .before .before .before .args in c .before .before .before .judge .result ≡ admittedAs (testsOf (a .chart)) (length (now (a .«data»))) (roomOf (now (a .s-upper)) (now (a .s-lower)) (now (a .signal)) (now (a .index)))
+answered : (c : tie.At-loop Inv-loop μ-loop) → let a = c .before .before .before .before .before .before .before .before .before .before .args in c .before .before .before .judge .result ≡ admittedAs (testsOf (a .chart)) (length (now (a .«data»))) (roomOf (now (a .s-upper)) (now (a .s-lower)) (now (a .side)) (now (a .index)))
 answered c = c .before .before .before .judge .ensures ∙ rw (c .before .before .before .before .shortest .ensures) refl
 
-counted : (c : tie.At-loop Inv-loop μ-loop) → let a = c .before .before .before .before .before .before .before .before .before .before .args in c .before .before .count .result ≡ countOf (admittedAs (testsOf (a .chart)) (length (now (a .«data»))) (roomOf (now (a .s-upper)) (now (a .s-lower)) (now (a .signal)) (now (a .index))))
+counted : (c : tie.At-loop Inv-loop μ-loop) → let a = c .before .before .before .before .before .before .before .before .before .before .args in c .before .before .count .result ≡ countOf (admittedAs (testsOf (a .chart)) (length (now (a .«data»))) (roomOf (now (a .s-upper)) (now (a .s-lower)) (now (a .side)) (now (a .index))))
 counted c = c .before .before .count .ensures ∙ ap countOf (answered c)
 
-fits : (c : tie.At-loop Inv-loop μ-loop) → let a = c .before .before .before .before .before .before .before .before .before .before .args in (c .before .before .count .result ≤ length (now (a .«data»))) × Room (c .before .before .count .result) (now (a .s-upper)) (now (a .s-lower)) (now (a .signal)) (now (a .index))
+fits : (c : tie.At-loop Inv-loop μ-loop) → let a = c .before .before .before .before .before .before .before .before .before .before .args in (c .before .before .count .result ≤ length (now (a .«data»))) × Room (c .before .before .count .result) (now (a .s-upper)) (now (a .s-lower)) (now (a .side)) (now (a .index))
 fits c = rw (counted c) (written-room _ _ _ _ _ _)
 
 upper-within : (c : tie.In-loop Inv-loop μ-loop) → c .before .loop .i < length (c .before .loop .s-upper)
@@ -62,10 +62,10 @@ lower-within c =
     let e = lower-length (fits (c .before) .1) (c .before .loop .inv .0) (c .before .loop .inv .1) in
     omega (arith, e, c .loop-test .taken, fits (c .before) .1 .lower-room)
 
-signal-within : (c : tie.In-loop Inv-loop μ-loop) → c .before .loop .i < length (c .before .loop .signal)
-signal-within c =
-    let e = signal-length (fits (c .before) .1) (c .before .loop .inv .0) (c .before .loop .inv .1) in
-    omega (arith, e, c .loop-test .taken, fits (c .before) .1 .signal-room)
+side-within : (c : tie.In-loop Inv-loop μ-loop) → c .before .loop .i < length (c .before .loop .side)
+side-within c =
+    let e = side-length (fits (c .before) .1) (c .before .loop .inv .0) (c .before .loop .inv .1) in
+    omega (arith, e, c .loop-test .taken, fits (c .before) .1 .side-room)
 
 index-within : (c : tie.In-loop Inv-loop μ-loop) → c .before .loop .i < length (c .before .loop .index)
 index-within c =
@@ -91,11 +91,11 @@ mul-s-lower c = omega (arith, small (c .before .before .before))
 slice-write-s-lower : tie.Need-slice-write-s-lower Inv-loop μ-loop
 slice-write-s-lower c = lower-within (c .before .before .before)
 
-flag-requires : tie.Need-flag-requires Inv-loop μ-loop
-flag-requires c κs = tt
+side-number-requires : tie.Need-side-number-requires Inv-loop μ-loop
+side-number-requires c κs = tt
 
-slice-write-signal : tie.Need-slice-write-signal Inv-loop μ-loop
-slice-write-signal c = signal-within (c .before .before .before .before)
+slice-write-side : tie.Need-slice-write-side Inv-loop μ-loop
+slice-write-side c = side-within (c .before .before .before .before)
 
 mul-index : tie.Need-mul-index Inv-loop μ-loop
 mul-index c = omega (arith, small (c .before .before .before .before))
@@ -110,7 +110,7 @@ loop-less : tie.Need-loop-less Inv-loop μ-loop
 loop-less c = omega (arith, c .before .before .before .before .loop-test .taken)
 
 loop-again : tie.Need-loop-again Inv-loop μ-loop
-loop-again c = rw (c .flag .ensures) (one-more (fits (c .before .before .before .before .before) .1) (c .before .before .before .before .before .loop .inv .0) (c .before .before .before .before .before .loop .inv .1) (fits (c .before .before .before .before .before) .0) (c .before .before .before .before .loop-test .taken) _ (c .before .before .before .following .ensures))
+loop-again c = rw (c .side-number .ensures) (one-more (fits (c .before .before .before .before .before) .1) (c .before .before .before .before .before .loop .inv .0) (c .before .before .before .before .before .loop .inv .1) (fits (c .before .before .before .before .before) .0) (c .before .before .before .before .loop-test .taken) _ (c .before .before .before .following .ensures))
 
 answered-requires : tie.Need-answered-requires Inv-loop μ-loop
 answered-requires c κs = tt
@@ -122,7 +122,7 @@ same-length-2 : tie.Need-same-length-2 Inv-loop μ-loop
 same-length-2 c = lower-length (fits (c .before .before) .1) (c .before .before .loop .inv .0) (c .before .before .loop .inv .1)
 
 same-length-3 : tie.Need-same-length-3 Inv-loop μ-loop
-same-length-3 c = signal-length (fits (c .before .before) .1) (c .before .before .loop .inv .0) (c .before .before .loop .inv .1)
+same-length-3 c = side-length (fits (c .before .before) .1) (c .before .before .loop .inv .0) (c .before .before .loop .inv .1)
 
 same-length-4 : tie.Need-same-length-4 Inv-loop μ-loop
 same-length-4 c = index-length (fits (c .before .before) .1) (c .before .before .loop .inv .0) (c .before .before .loop .inv .1)
@@ -135,4 +135,4 @@ returns c =
 pub cusum-analyze-spec : {M : Type 1} → statement M
 cusum-analyze-spec =
     tie.close
-    (tie.spec Inv-loop μ-loop shortest-requires judge-requires count-requires start-requires loop-holds following-requires mul-s-upper slice-write-s-upper mul-s-lower slice-write-s-lower flag-requires slice-write-signal mul-index slice-write-index add-i loop-less loop-again answered-requires same-length same-length-2 same-length-3 same-length-4 returns)
+    (tie.spec Inv-loop μ-loop shortest-requires judge-requires count-requires start-requires loop-holds following-requires mul-s-upper slice-write-s-upper mul-s-lower slice-write-s-lower side-number-requires slice-write-side mul-index slice-write-index add-i loop-less loop-again answered-requires same-length same-length-2 same-length-3 same-length-4 returns)

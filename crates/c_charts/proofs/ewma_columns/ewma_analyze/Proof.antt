@@ -16,16 +16,16 @@ use Rattle.ewma.specs.Settled.{settledOf}
 use Rattle.ewma.proofs.AtRest.{following-settles}
 use Rattle.c_answers.specs.Told.{countedOf}
 use Rattle.c_charts.specs.EwmaColumns.{roomOf}
-use Rattle.c_charts.proofs.EwmaLaws.{Filled, Room, arrays-are, written-room, ewma-length, ucl-length, lcl-length, signal-length, index-length, all-done, one-more}
+use Rattle.c_charts.proofs.EwmaLaws.{Filled, Room, arrays-are, written-room, ewma-length, ucl-length, lcl-length, side-length, index-length, all-done, one-more}
 use Rattle.c_charts.proofs.ewma_columns.ewma_analyze.Statement.{statement}
 use Rattle.c_charts.proofs.ewma_columns.ewma_analyze.Tie as tie
 
 abbrev Inv-loop : tie.InvT-loop
-Inv-loop chart «data» ewma₀ ucl₀ lcl₀ signal₀ index₀ room answer n state₀ i₀ ewma ucl lcl signal index state i =
-    Going itself fresh nextRecord chart «data» n (state .shown) i × Filled chart «data» i ewma₀ ewma ucl₀ ucl lcl₀ lcl signal₀ signal index₀ index × (state .settled ≡ settledOf chart)
+Inv-loop chart «data» ewma₀ ucl₀ lcl₀ side₀ index₀ room answer n state₀ i₀ ewma ucl lcl side index state i =
+    Going itself fresh nextRecord chart «data» n (state .shown) i × Filled chart «data» i ewma₀ ewma ucl₀ ucl lcl₀ lcl side₀ side index₀ index × (state .settled ≡ settledOf chart)
 
 abbrev μ-loop : tie.MeasureT-loop
-μ-loop chart «data» ewma₀ ucl₀ lcl₀ signal₀ index₀ room answer n state₀ i₀ ewma ucl lcl signal index state i = n - i
+μ-loop chart «data» ewma₀ ucl₀ lcl₀ side₀ index₀ room answer n state₀ i₀ ewma ucl lcl side index state i = n - i
 
 shorter-requires : tie.Need-shorter-requires Inv-loop μ-loop
 shorter-requires c κs = tt
@@ -43,19 +43,19 @@ start-requires : tie.Need-start-requires Inv-loop μ-loop
 start-requires c κs = tt
 
 loop-holds : tie.Need-loop-holds Inv-loop μ-loop
-loop-holds c = rw (c .start .ensures) (not-gone itself fresh nextRecord _ _ _, record { ewma-left = refl; ucl-left = refl; lcl-left = refl; signal-left = refl; index-left = refl }, refl)
+loop-holds c = rw (c .start .ensures) (not-gone itself fresh nextRecord _ _ _, record { ewma-left = refl; ucl-left = refl; lcl-left = refl; side-left = refl; index-left = refl }, refl)
 
 following-requires : tie.Need-following-requires Inv-loop μ-loop
 following-requires c κs = tt
 
 -- the answer, and that its records have room
-answered : (c : tie.At-loop Inv-loop μ-loop) → let a = c .before .before .before .before .before .before .before .before .before .before .before .before .args in c .before .before .before .judge .result ≡ admittedAs (testsOf (a .chart)) (length (now (a .«data»))) (roomOf (now (a .ewma)) (now (a .ucl)) (now (a .lcl)) (now (a .signal)) (now (a .index)))
+answered : (c : tie.At-loop Inv-loop μ-loop) → let a = c .before .before .before .before .before .before .before .before .before .before .before .before .args in c .before .before .before .judge .result ≡ admittedAs (testsOf (a .chart)) (length (now (a .«data»))) (roomOf (now (a .ewma)) (now (a .ucl)) (now (a .lcl)) (now (a .side)) (now (a .index)))
 answered c = c .before .before .before .judge .ensures ∙ rw (c .before .before .before .before .shortest .ensures, c .before .before .before .before .before .shorter .ensures) refl
 
-counted : (c : tie.At-loop Inv-loop μ-loop) → let a = c .before .before .before .before .before .before .before .before .before .before .before .before .args in c .before .before .count .result ≡ countOf (admittedAs (testsOf (a .chart)) (length (now (a .«data»))) (roomOf (now (a .ewma)) (now (a .ucl)) (now (a .lcl)) (now (a .signal)) (now (a .index))))
+counted : (c : tie.At-loop Inv-loop μ-loop) → let a = c .before .before .before .before .before .before .before .before .before .before .before .before .args in c .before .before .count .result ≡ countOf (admittedAs (testsOf (a .chart)) (length (now (a .«data»))) (roomOf (now (a .ewma)) (now (a .ucl)) (now (a .lcl)) (now (a .side)) (now (a .index))))
 counted c = c .before .before .count .ensures ∙ ap countOf (answered c)
 
-fits : (c : tie.At-loop Inv-loop μ-loop) → let a = c .before .before .before .before .before .before .before .before .before .before .before .before .args in (c .before .before .count .result ≤ length (now (a .«data»))) × Room (c .before .before .count .result) (now (a .ewma)) (now (a .ucl)) (now (a .lcl)) (now (a .signal)) (now (a .index))
+fits : (c : tie.At-loop Inv-loop μ-loop) → let a = c .before .before .before .before .before .before .before .before .before .before .before .before .args in (c .before .before .count .result ≤ length (now (a .«data»))) × Room (c .before .before .count .result) (now (a .ewma)) (now (a .ucl)) (now (a .lcl)) (now (a .side)) (now (a .index))
 fits c = rw (counted c) (written-room _ _ _ _ _ _ _)
 
 ewma-within : (c : tie.In-loop Inv-loop μ-loop) → c .before .loop .i < length (c .before .loop .ewma)
@@ -73,10 +73,10 @@ lcl-within c =
     let e = lcl-length (fits (c .before) .1) (c .before .loop .inv .0) (c .before .loop .inv .1) in
     omega (arith, e, c .loop-test .taken, fits (c .before) .1 .lcl-room)
 
-signal-within : (c : tie.In-loop Inv-loop μ-loop) → c .before .loop .i < length (c .before .loop .signal)
-signal-within c =
-    let e = signal-length (fits (c .before) .1) (c .before .loop .inv .0) (c .before .loop .inv .1) in
-    omega (arith, e, c .loop-test .taken, fits (c .before) .1 .signal-room)
+side-within : (c : tie.In-loop Inv-loop μ-loop) → c .before .loop .i < length (c .before .loop .side)
+side-within c =
+    let e = side-length (fits (c .before) .1) (c .before .loop .inv .0) (c .before .loop .inv .1) in
+    omega (arith, e, c .loop-test .taken, fits (c .before) .1 .side-room)
 
 index-within : (c : tie.In-loop Inv-loop μ-loop) → c .before .loop .i < length (c .before .loop .index)
 index-within c =
@@ -108,11 +108,11 @@ mul-lcl c = omega (arith, small (c .before .before .before))
 slice-write-lcl : tie.Need-slice-write-lcl Inv-loop μ-loop
 slice-write-lcl c = lcl-within (c .before .before .before)
 
-flag-requires : tie.Need-flag-requires Inv-loop μ-loop
-flag-requires c κs = tt
+side-number-requires : tie.Need-side-number-requires Inv-loop μ-loop
+side-number-requires c κs = tt
 
-slice-write-signal : tie.Need-slice-write-signal Inv-loop μ-loop
-slice-write-signal c = signal-within (c .before .before .before .before)
+slice-write-side : tie.Need-slice-write-side Inv-loop μ-loop
+slice-write-side c = side-within (c .before .before .before .before)
 
 mul-index : tie.Need-mul-index Inv-loop μ-loop
 mul-index c = omega (arith, small (c .before .before .before .before))
@@ -139,7 +139,7 @@ loop-again c =
     let at = c .before .before .before .before .before in
     let m = moves (c .before .before .before) in
     let done = one-more (fits at .1) (at .loop .inv .0) (at .loop .inv .1) (fits at .0) (c .before .before .before .before .loop-test .taken) _ (m .0) in
-    rw (c .flag .ensures) (done .0, done .1, m .1)
+    rw (c .side-number .ensures) (done .0, done .1, m .1)
 
 answered-requires : tie.Need-answered-requires Inv-loop μ-loop
 answered-requires c κs = tt
@@ -154,7 +154,7 @@ same-length-3 : tie.Need-same-length-3 Inv-loop μ-loop
 same-length-3 c = lcl-length (fits (c .before .before) .1) (c .before .before .loop .inv .0) (c .before .before .loop .inv .1)
 
 same-length-4 : tie.Need-same-length-4 Inv-loop μ-loop
-same-length-4 c = signal-length (fits (c .before .before) .1) (c .before .before .loop .inv .0) (c .before .before .loop .inv .1)
+same-length-4 c = side-length (fits (c .before .before) .1) (c .before .before .loop .inv .0) (c .before .before .loop .inv .1)
 
 same-length-5 : tie.Need-same-length-5 Inv-loop μ-loop
 same-length-5 c = index-length (fits (c .before .before) .1) (c .before .before .loop .inv .0) (c .before .before .loop .inv .1)
@@ -167,4 +167,4 @@ returns c =
 pub ewma-analyze-spec : {M : Type 1} → statement M
 ewma-analyze-spec =
     tie.close
-    (tie.spec Inv-loop μ-loop shorter-requires shortest-requires judge-requires count-requires start-requires loop-holds following-requires mul-ewma slice-write-ewma mul-ucl slice-write-ucl mul-lcl slice-write-lcl flag-requires slice-write-signal mul-index slice-write-index add-i loop-less loop-again answered-requires same-length same-length-2 same-length-3 same-length-4 same-length-5 returns)
+    (tie.spec Inv-loop μ-loop shorter-requires shortest-requires judge-requires count-requires start-requires loop-holds following-requires mul-ewma slice-write-ewma mul-ucl slice-write-ucl mul-lcl slice-write-lcl side-number-requires slice-write-side mul-index slice-write-index add-i loop-less loop-again answered-requires same-length same-length-2 same-length-3 same-length-4 same-length-5 returns)

@@ -12,7 +12,7 @@ use Rattle.charts.specs.declared.Settings.{Settings}
 use Rattle.charts.specs.Settings.{testedAs, afterSettings}
 use Rattle.charts.proofs.SettingLaws.{tested-first}
 use Rattle.cusum.specs.declared.Cusum.{Cusum}
-use Rattle.cusum.specs.declared.Side.{Side}
+use Rattle.charts.specs.declared.Sum.{Sum}
 use Rattle.cusum.specs.Chart.{testsOf}
 use Rattle.cusum.specs.RunLength.{heard, runLength}
 use Rattle.cusum.proofs.Cusum.run_length.Statement.{statement}
@@ -34,12 +34,12 @@ enum-known-settings : tie.Need-enum-known-settings
 enum-known-settings c = search needs
 
 -- what is said once the settings `s` are tested
-abbrev after : Cusum → Float → Side → Settings → Said
-after c v side s = afterSettings refusing s (tried refusing ((not (finite v), Refusal.NonFinite 0 0) ∷ []) (answered (heard c v side)))
+abbrev after : Cusum → Float → Sum → Settings → Said
+after c v asked s = afterSettings refusing s (tried refusing ((not (finite v), Refusal.NonFinite 0 0) ∷ []) (answered (heard c v asked)))
 
-run-length-after : (c : Cusum) (v : Float) (side : Side) (s : Settings) → s ≡ testedAs (testsOf c) → after c v side s ≡ runLength c v side
+run-length-after : (c : Cusum) (v : Float) (asked : Sum) (s : Settings) → s ≡ testedAs (testsOf c) → after c v asked s ≡ runLength c v asked
 unfolding runLength
-run-length-after c v side s e = ap (after c v side) e ∙ tested-first refusing (testsOf c) ((not (finite v), Refusal.NonFinite 0 0) ∷ []) (answered (heard c v side))
+run-length-after c v asked s e = ap (after c v asked) e ∙ tested-first refusing (testsOf c) ((not (finite v), Refusal.NonFinite 0 0) ∷ []) (answered (heard c v asked))
 
 returns : tie.Need-returns
 unfolding tried
@@ -47,7 +47,7 @@ returns c =
     let there = c .before .before .before in
     let a = there .before .before .before .args in
     let f : finite (a .level) ≡ true = sym (c .before .before .finite .ensures) ∙ c .before .if1 .taken in
-    c .listen .ensures ∙ rw (there .enum-told .given .1, f) at (run-length-after (a .self) (a .level) (a .side) _ (there .before .before .tested .ensures))
+    c .listen .ensures ∙ rw (there .enum-told .given .1, f) at (run-length-after (a .self) (a .level) (a .asked) _ (there .before .before .tested .ensures))
 
 returns-2 : tie.Need-returns-2
 unfolding tried
@@ -55,13 +55,13 @@ returns-2 c =
     let there = c .before .before in
     let a = there .before .before .before .args in
     let f : finite (a .level) ≡ false = sym (c .before .finite .ensures) ∙ c .if1 .left in
-    rw (there .enum-told .given .1, f) at (run-length-after (a .self) (a .level) (a .side) _ (there .before .before .tested .ensures))
+    rw (there .enum-told .given .1, f) at (run-length-after (a .self) (a .level) (a .asked) _ (there .before .before .tested .ensures))
 
 returns-3 : tie.Need-returns-3
 returns-3 c =
     let there = c .before in
     let a = there .before .before .before .args in
-    rw (there .settings .given .1) at (run-length-after (a .self) (a .level) (a .side) _ (there .before .before .tested .ensures))
+    rw (there .settings .given .1) at (run-length-after (a .self) (a .level) (a .asked) _ (there .before .before .tested .ensures))
 
 pub run-length-spec : {M : Type 1} → statement M
 run-length-spec = tie.close (tie.spec tested-requires enum-told finite-requires listen-requires returns enum-known-settings returns-2 returns-3)

@@ -41,6 +41,9 @@ fits c = rw (counted c) (within-both _ _ _)
 next-requires : tie.Need-next-requires Inv-loop μ-loop
 next-requires c κs = omega (arith, c .loop-test .taken, fits (c .before) .0)
 
+signals-requires : tie.Need-signals-requires Inv-loop μ-loop
+signals-requires c κs = tt
+
 note-requires : tie.Need-note-requires Inv-loop μ-loop
 note-requires c κs = tt
 
@@ -52,8 +55,11 @@ loop-less c = search needs
 
 loop-again : tie.Need-loop-again Inv-loop μ-loop
 loop-again c =
-    let at = c .before .before .before .before .before .before .before in
-    one-more shownOf startState nextState signalOf _ _ _ _ _ _ _ _ (at .loop .inv) (fits at .1) _ _ _ (c .before .before .before .before .before .before .loop-test .taken) (c .before .before .before .before .before .next .ensures) (c .before .before .note .ensures)
+    let noted = c .before .before in
+    let told = noted .before .before in
+    let went = told .before .before in
+    let at = went .before .before in
+    one-more shownOf startState nextState signalOf _ _ _ _ _ _ _ _ (at .loop .inv) (fits at .1) _ _ _ (went .before .loop-test .taken) (went .next .ensures) (rw (told .signals .ensures) at (noted .note .ensures))
 
 marked-requires : tie.Need-marked-requires Inv-loop μ-loop
 marked-requires c κs = tt
@@ -71,4 +77,4 @@ returns c =
 
 pub signal-points-spec : {M : Type 1} → statement M
 signal-points-spec =
-    tie.close (tie.spec Inv-loop μ-loop judge-requires count-requires start-requires loop-holds next-requires note-requires add-i loop-less loop-again marked-requires same-length returns)
+    tie.close (tie.spec Inv-loop μ-loop judge-requires count-requires start-requires loop-holds next-requires signals-requires note-requires add-i loop-less loop-again marked-requires same-length returns)

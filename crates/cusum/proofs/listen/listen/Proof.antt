@@ -10,10 +10,10 @@ use Rattle.cusum.proofs.listen.listen.Statement.{statement}
 use Rattle.cusum.proofs.listen.listen.Tie as tie
 
 abbrev Inv-loop : tie.InvT-loop
-Inv-loop chart level side shown₀ reading₀ shown reading = (reading ≤ 4096) × (heardFrom chart level side (4096 - reading) reading shown ≡ heard chart level side)
+Inv-loop chart level asked shown₀ reading₀ shown reading = (reading ≤ 4096) × (heardFrom chart level asked (4096 - reading) reading shown ≡ heard chart level asked)
 
 abbrev μ-loop : tie.MeasureT-loop
-μ-loop chart level side shown₀ reading₀ shown reading = 4096 - reading
+μ-loop chart level asked shown₀ reading₀ shown reading = 4096 - reading
 
 start-requires : tie.Need-start-requires Inv-loop μ-loop
 start-requires c κs = search needs

@@ -23,12 +23,16 @@ less-requires c κs = both-above c .0
 less-requires-2 : tie.Need-less-requires-2
 less-requires-2 c κs = both-above (c .before) .0
 
+side-of-requires : tie.Need-side-of-requires
+side-of-requires c κs = tt
+
 returns : tie.Need-returns
 unfolding ofBits
 returns c =
-    let second = c .before .before .less2 in
-    let other-side = not-at-most (c .before .before .before .before .before .before .before .before .before .args .chart .h) (second .result) (both-above (c .before .before .before .before) .1) (ap isNan (second .ensures) ∙ max-number _) in
-    rw (other-side, second .ensures, c .before .before .before .less .ensures) refl
+    let at = c .before .before .before in
+    let second = at .less2 in
+    let other-side = not-at-most (at .before .before .before .before .before .before .before .args .chart .h) (second .result) (both-above (at .before .before) .1) (ap isNan (second .ensures) ∙ max-number _) in
+    rw (c .side-of .ensures, other-side, second .ensures, at .before .less .ensures) refl
 
 max-requires : tie.Need-max-requires
 max-requires c κs = tt
@@ -36,9 +40,12 @@ max-requires c κs = tt
 max-requires-2 : tie.Need-max-requires-2
 max-requires-2 c κs = tt
 
+side-of-requires-2 : tie.Need-side-of-requires-2
+side-of-requires-2 c κs = tt
+
 returns-2 : tie.Need-returns-2
 unfolding ofBits
-returns-2 c = rw (c .before .before .max2 .ensures, c .before .before .before .before .max .ensures) refl
+returns-2 c = rw (c .side-of2 .ensures, c .before .before .before .max2 .ensures, c .before .before .before .before .before .max .ensures) refl
 
 pub moved-spec : {M : Type 1} → statement M
-moved-spec = tie.close (tie.spec less-requires less-requires-2 returns max-requires max-requires-2 returns-2)
+moved-spec = tie.close (tie.spec less-requires less-requires-2 side-of-requires returns max-requires max-requires-2 side-of-requires-2 returns-2)

@@ -45,6 +45,9 @@ fits c = rw (counted c) (within-both _ _ _ .0, within-both _ _ _ .1, few-records
 following-requires : tie.Need-following-requires Inv-loop μ-loop
 following-requires c κs = tt
 
+signals-requires : tie.Need-signals-requires Inv-loop μ-loop
+signals-requires c κs = tt
+
 note-requires : tie.Need-note-requires Inv-loop μ-loop
 note-requires c κs = tt
 
@@ -65,9 +68,12 @@ moves c =
 
 loop-again : tie.Need-loop-again Inv-loop μ-loop
 loop-again c =
-    let at = c .before .before .before .before .before .before .before in
-    let m = moves (c .before .before .before .before .before) in
-    (one-more itself fresh nextRecord signalOf _ _ _ _ _ _ _ _ (at .loop .inv .0) (fits at .1) _ _ _ (c .before .before .before .before .before .before .loop-test .taken) (m .0) (c .before .before .note .ensures), m .1)
+    let noted = c .before .before in
+    let told = noted .before .before in
+    let went = told .before .before in
+    let at = went .before .before in
+    let m = moves went in
+    (one-more itself fresh nextRecord signalOf _ _ _ _ _ _ _ _ (at .loop .inv .0) (fits at .1) _ _ _ (went .before .loop-test .taken) (m .0) (rw (told .signals .ensures) at (noted .note .ensures)), m .1)
 
 marked-requires : tie.Need-marked-requires Inv-loop μ-loop
 marked-requires c κs = tt
@@ -85,4 +91,4 @@ returns c =
 
 pub signal-points-spec : {M : Type 1} → statement M
 signal-points-spec =
-    tie.close (tie.spec Inv-loop μ-loop judge-requires count-requires start-requires loop-holds following-requires note-requires add-i loop-less loop-again marked-requires same-length returns)
+    tie.close (tie.spec Inv-loop μ-loop judge-requires count-requires start-requires loop-holds following-requires signals-requires note-requires add-i loop-less loop-again marked-requires same-length returns)

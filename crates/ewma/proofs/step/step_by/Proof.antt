@@ -10,10 +10,15 @@ use Rattle.ewma.proofs.step.step_by.Tie as tie
 finite-requires : tie.Need-finite-requires
 finite-requires c κs = tt
 
+side-of-requires : tie.Need-side-of-requires
+side-of-requires c κs = tt
+
 returns : tie.Need-returns
 unfolding stepBy ofBits ofInt
-returns c = let e : finite (c .before .before .before .before .before .before .before .args .x) ≡ true = sym (c .before .before .before .before .finite .ensures) ∙ c .before .before .before .if1 .taken in
-    rw (stepBy, e)
+returns c =
+    let at = c .before .before .before .before in
+    let e : finite (at .before .before .before .before .args .x) ≡ true = sym (at .before .finite .ensures) ∙ at .if1 .taken in
+    rw (c .side-of .ensures, stepBy, e)
 
 returns-2 : tie.Need-returns-2
 unfolding stepBy ofBits ofInt
@@ -21,4 +26,4 @@ returns-2 c = let e : finite (c .before .before .before .before .args .x) ≡ fa
     rw (stepBy, e)
 
 pub step-by-spec : {M : Type 1} → statement M
-step-by-spec = tie.close (tie.spec finite-requires returns returns-2)
+step-by-spec = tie.close (tie.spec finite-requires side-of-requires returns returns-2)
