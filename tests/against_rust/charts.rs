@@ -162,8 +162,7 @@ impl Chart {
         self.check_package(&due, fault)?;
         let outcome = match &due.answer {
             Err(_) => told(&met),
-            Ok(answer) if answer.points.is_empty() => "without a signal".into(),
-            Ok(_) => "with signals".into(),
+            Ok(answer) => signalled(answer).into(),
         };
         let named = due.named;
         Ok(Outcome { outcome, named })
@@ -284,6 +283,19 @@ fn told(met: &[u32]) -> String {
     match met {
         [first, next, ..] => format!("refusal {first} before {next}"),
         _ => format!("refusal {}", met[0]),
+    }
+}
+
+/// On which sides a series signals, for the count of outcomes.
+fn signalled(answer: &Answer) -> &'static str {
+    let has = |side| answer.records.iter().any(|record| record.side == side);
+    let sides = [charted::ABOVE, charted::BELOW, charted::BOTH].map(has);
+    match sides {
+        [_, _, true] => "with both at once",
+        [true, true, false] => "above and below",
+        [true, false, false] => "above alone",
+        [false, true, false] => "below alone",
+        [false, false, false] => "without a signal",
     }
 }
 

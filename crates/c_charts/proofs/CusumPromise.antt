@@ -26,7 +26,7 @@ use Rattle.c_answers.specs.Told.{toldOf, countedAs, countedOf, askedSum, runLen
 use Rattle.c_answers.proofs.ReadBack.{result-counted, count-told}
 use Rattle.c_charts.specs.Columns.{Facing}
 use Rattle.c_charts.specs.CusumColumns.{cusumArrays}
-use Rattle.c_charts.proofs.SideArrays.{cusum-told, cusum-side, facing-number}
+use Rattle.c_charts.proofs.SideArrays.{cusum-told, cusum-side, facing-number, facing-some}
 
 -- ---- what the number 0 tells
 -- a run length
@@ -46,6 +46,12 @@ module _ (c : Cusum) (v : Float) (asked n : ℕ) (told-at : countedAs 0 n ≡ co
       let told = cusum-told c xs upper lower upper′ lower′ side index side′ index′ count a in
       subst (Facing (askedSum asked)) (sym (cusum-side c xs upper lower upper′ lower′ side index side′ index′ count a (p + d) (in-series xs (p + d) (lasting .last))))
       (facing-number (askedSum asked) (recordAt c xs (p + d) .side) (record-side c v (askedSum asked) n (told-heard c v asked n told-at some) xs p d lasting (passed-accepted c (told .0))))
+
+  -- so that it is not 0
+  pub array-signals : (upper lower upper′ lower′ : List Float) (side index side′ index′ : List ℕ) (count : ℕ)
+      → _≡_ {A = Counted × List Float × List Float × List ℕ × List ℕ} (countedAs 0 count, upper′, lower′, side′, index′) (cusumArrays c xs upper lower side index) → 0 < getD side′ (p + d) 0
+  array-signals upper lower upper′ lower′ side index side′ index′ count a =
+      facing-some (askedSum asked) (getD side′ (p + d) 0) (array-side upper lower upper′ lower′ side index side′ index′ count a)
 
   pub points-have : (entry exit : List ℕ) (count : ℕ) → _≡_ {A = Counted × List ℕ} (countedAs 0 count, exit) (toldLeft (signalled c xs entry)) → Among exit count (p + d)
   points-have entry exit count a =

@@ -47,6 +47,10 @@ facing-number Lower Sided.Above e = absurd (false≢true e)
 facing-number Lower Sided.Below e = inl refl
 facing-number Lower Sided.Both e = inr refl
 
+pub facing-some : (asked : Sum) (n : ℕ) → Facing asked n → 0 < n
+facing-some Upper n f = elim f [ inl e ↦ omega (arith, e) | inr e ↦ omega (arith, e) ]
+facing-some Lower n f = elim f [ inl e ↦ omega (arith, e) | inr e ↦ omega (arith, e) ]
+
 other : (n : ℕ) → n < 3 → n ≡ 3 → ⊥
 other n h e = omega (arith, h, e)
 

@@ -12,10 +12,9 @@ use lib.Ieee.{Float, nan, binary64, neg, sub, lt, le}
 use lib.Ieee.Bits.{is-true}
 use lib.Ieee.Fits.{and-l, and-r}
 use lib.Ieee.Positive.{positive}
-use mathlib.Core.Logic.{inl, inr}
 use Rattle.floats.specs.Numbers.{_<ᶠ_, _≤ᶠ_, +0}
 use Rattle.floats.specs.Finite.{finite}
-use Rattle.floats.proofs.Order.Zero.{above-zero}
+use Rattle.floats.proofs.Order.Zero.{finite-above}
 use Rattle.floats.proofs.Order.Laws.{le-reflexive, lt-then-le, neg-anti}
 use Rattle.floats.proofs.Order.Sums.{sub-le}
 use Rattle.floats.proofs.Order.Quotients.{div-le}
@@ -51,15 +50,11 @@ settings c ok =
     let h = finite (c .h) && +0 <ᶠ c .h in
     let first = and-l (finite (c .target) && s && k) h ok in
     let two = and-l (finite (c .target) && s) k first in
-    let sig = and-r (finite (c .target)) s two in
     record {
       target = and-l (finite (c .target)) s two;
-      sigma = above (c .sigma) (and-l (finite (c .sigma)) (+0 <ᶠ c .sigma) sig) (and-r (finite (c .sigma)) (+0 <ᶠ c .sigma) sig);
+      sigma = finite-above (c .sigma) (and-r (finite (c .target)) s two);
       k = and-l (finite (c .k)) (+0 ≤ᶠ c .k) (and-r (finite (c .target) && s) k first);
     }
-  where
-    above : (x : Float) → T (finite x) → T (+0 <ᶠ x) → T (positive x)
-    above x f t = elim (above-zero x (is-true (lt +0 x) t)) [ inl p ↦ p | inr e ↦ absurd (rw e at f) ]
 
 -- ---- the asked sum: at a finite reading it moves on by the score, or the lower one by its negative
 abbrev turned : Sum → Float → Float

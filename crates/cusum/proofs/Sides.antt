@@ -43,6 +43,9 @@ module _ (c : Cusum) (xs : List Float) (entry exit : List CusumResult) (k : ℕ)
   pub analyze-gap : finite (getD xs i nan) ≡ false → written .side ≡ Sided.None
   analyze-gap = each-written shownOf startState nextState c xs (λ (x : Float) (r : CusumResult). finite x ≡ false → r .side ≡ Sided.None) (λ s j x. gap-is-none c (s .shown) (record { 0 = j }) x) (testsOf c) entry exit k a i fresh h
 
+  pub analyze-side-is : finite (getD xs i nan) ≡ true → written .side ≡ sideOf (c .h <ᶠ written .«s_upper») (c .h <ᶠ written .«s_lower»)
+  analyze-side-is = each-written shownOf startState nextState c xs (λ (x : Float) (r : CusumResult). finite x ≡ true → r .side ≡ sideOf (c .h <ᶠ r .«s_upper») (c .h <ᶠ r .«s_lower»)) (λ s j x. side-is c (s .shown) (record { 0 = j }) x) (testsOf c) entry exit k a i fresh h
+
   -- the Rust's yes or no: a finite reading, and a sum above h
   pub analyze-signal : signals (written .side) ≡ (finite (getD xs i nan) && (c .h <ᶠ written .«s_upper» || c .h <ᶠ written .«s_lower»))
   analyze-signal = each-written shownOf startState nextState c xs (λ (x : Float) (r : CusumResult). signals (r .side) ≡ (finite x && (c .h <ᶠ r .«s_upper» || c .h <ᶠ r .«s_lower»)))

@@ -3,16 +3,14 @@ use mathlib.Core.Path.{_≡_, refl, sym, ap, subst, _∙_}
 use Prim.Native.Nat.{ℕ, _<_}
 use mathlib.Core.Bool.{Bool, true, false, _&&_, _||_, false≢true}
 use mathlib.Core.List.{List}
-use mathlib.Core.Logic.{inl, inr}
 use lib.Dec.{T}
 use lib.ListN.{getD}
 use lib.Ieee.{Float, nan, binary64, add, sub, lt}
-use lib.Ieee.Bits.{is-true}
 use lib.Ieee.Fits.{and-l, and-r}
 use lib.Ieee.Positive.{positive}
 use Rattle.floats.specs.Numbers.{_+ᶠ_, _-ᶠ_, _*ᶠ_, _<ᶠ_, _≤ᶠ_, +0, ofWhole}
 use Rattle.floats.specs.Finite.{finite}
-use Rattle.floats.proofs.Order.Zero.{above-zero}
+use Rattle.floats.proofs.Order.Zero.{finite-above}
 use Rattle.floats.proofs.Order.FromZero.{FromZero, positive-product, product-from-zero, limits-apart}
 use Rattle.elementary.specs.Root.{sqrt}
 use Rattle.elementary.proofs.RootSign.{root-from-zero}
@@ -43,9 +41,6 @@ module _ (c : Ewma) (r : EwmaResult) (i : Observation) (x : Float) where
   signal-is = let q = stepOf c r i x in finite-signals (finite x) (q .ucl <ᶠ q .ewma) (q .ewma <ᶠ q .lcl) (q .side) side-is gap-is-none
 
 -- ---- the limits of an accepted chart
-above : (x : Float) → T (finite x) → T (+0 <ᶠ x) → T (positive x)
-above x f t = elim (above-zero x (is-true (lt +0 x) t)) [ inl p ↦ p | inr e ↦ absurd (rw e at f) ]
-
 -- sigma and L are above 0
 widths : (c : Ewma) → T (accepted c) → T (positive (c .sigma)) × T (positive (c .«l_factor»))
 unfolding accepted
@@ -54,9 +49,7 @@ widths c ok =
     let w = +0 <ᶠ c .lambda && c .lambda ≤ᶠ ofWhole 1 in
     let l = finite (c .«l_factor») && +0 <ᶠ c .«l_factor» in
     let first = and-l (finite (c .target) && s && w) l ok in
-    let sig = and-r (finite (c .target)) s (and-l (finite (c .target) && s) w first) in
-    let lim = and-r (finite (c .target) && s && w) l ok in
-    (above (c .sigma) (and-l (finite (c .sigma)) (+0 <ᶠ c .sigma) sig) (and-r (finite (c .sigma)) (+0 <ᶠ c .sigma) sig), above (c .«l_factor») (and-l (finite (c .«l_factor»)) (+0 <ᶠ c .«l_factor») lim) (and-r (finite (c .«l_factor»)) (+0 <ᶠ c .«l_factor») lim))
+    (finite-above (c .sigma) (and-r (finite (c .target)) s (and-l (finite (c .target) && s) w first)), finite-above (c .«l_factor») (and-r (finite (c .target) && s && w) l ok))
 
 -- half their distance is at or above 0, or NaN
 pub half-from-zero : (c : Ewma) → T (accepted c) → (place : Place) → FromZero (halfWidth c place)
@@ -114,6 +107,9 @@ module _ (c : Ewma) (xs : List Float) (entry exit : List EwmaResult) (k : ℕ) (
 
   pub analyze-gap : finite (getD xs i nan) ≡ false → written .side ≡ Sided.None
   analyze-gap = each-written itself fresh nextRecord c xs (λ (x : Float) (r : EwmaResult). finite x ≡ false → r .side ≡ Sided.None) (λ s j x. gap-is-none c s (record { 0 = j }) x) (testsOf c) entry exit k a i (fresh c) h
+
+  pub analyze-side-is : finite (getD xs i nan) ≡ true → written .side ≡ sideOf (written .ucl <ᶠ written .ewma) (written .ewma <ᶠ written .lcl)
+  analyze-side-is = each-written itself fresh nextRecord c xs (λ (x : Float) (r : EwmaResult). finite x ≡ true → r .side ≡ sideOf (r .ucl <ᶠ r .ewma) (r .ewma <ᶠ r .lcl)) (λ s j x. side-is c s (record { 0 = j }) x) (testsOf c) entry exit k a i (fresh c) h
 
   -- the Rust's yes or no: a finite reading, and a statistic outside the limits
   pub analyze-signal : signals (written .side) ≡ (finite (getD xs i nan) && (written .ucl <ᶠ written .ewma || written .ewma <ᶠ written .lcl))

@@ -1,6 +1,6 @@
 -- How a value compares with +0: above it is `positive` or the infinity, equal to it is a zero of either sign, and anything else is NaN or negative. Assumes nothing.
 use mathlib.Core.Path.{_≡_, refl, sym, _∙_}
-use mathlib.Core.Bool.{Bool, true, false, not, true≢false, false≢true}
+use mathlib.Core.Bool.{Bool, true, false, not, _&&_, true≢false, false≢true}
 use mathlib.Core.Logic.{_⊎_, inl, inr}
 use Prim.Native.Nat.{ℕ, zero, suc, _+_, _*_, _<_}
 use native.Mathlib.Nat.{zero-mul, mul-one, mul-pos, zero-lt-suc}
@@ -9,9 +9,11 @@ use borrow.Author.Tests.{eq-eqb, ne-eqb, lt-ltb, le-ltb}
 use lib.Dec.{T, ltb, eqb, lt→ltb}
 use lib.IntN.{ℤ}
 use lib.Ieee.{Float, nan, inf, fin, binary64, up, down, div, ofBits, lt, eq}
-use lib.Ieee.Fits.{up-pos}
+use lib.Ieee.Bits.{is-true}
+use lib.Ieee.Fits.{up-pos, and-l, and-r}
 use lib.Ieee.Positive.{positive}
 use Rattle.floats.specs.Numbers.{+0}
+use Rattle.floats.specs.Finite.{finite}
 
 -- ---- the two sides of the comparison: +0 is 0 * 1 over 1
 nothing : (d : ℕ) → 0 * 1 * d ≡ 0
@@ -81,6 +83,10 @@ above-zero (inf false) h = inr refl
 above-zero (fin true (suc m) e) h = absurd (false≢true (sym (some-above true m e) ∙ h))
 above-zero (fin false (suc m) e) h = inl (lt→ltb 0 (suc m) (zero-lt-suc m))
 above-zero (fin s zero e) h = absurd (false≢true (sym (zero-not-above s e) ∙ h))
+
+-- finite and above 0
+pub finite-above : (x : Float) → T (finite x && lt +0 x) → T (positive x)
+finite-above x h = elim (above-zero x (is-true (lt +0 x) (and-r (finite x) (lt +0 x) h))) [ inl p ↦ p | inr e ↦ absurd (rw e at (and-l (finite x) (lt +0 x) h)) ]
 
 pub equal-to-zero : (x : Float) → eq x +0 ≡ true → (s : Bool) × ((e : ℤ) × (x ≡ fin s zero e))
 equal-to-zero nan h = absurd (false≢true (unfold eq in h))
