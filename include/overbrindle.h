@@ -38,7 +38,7 @@
  *      7 Room       a slice is shorter than said below
  *      8 NonFinite  a reading or level is NaN or infinite (strict search and run length only)
  *      9 Pool       L2 on one or two channels needs more slots than the pool has
- *     10 Form       a number that stands for no cost, penalty or sum
+ *     10 Form       a number that stands for no cost, penalty, sum or edition
  *     12 Piece      a piece whose start is not below its end, or whose end is past the channel
  *     15 Target     a chart's target is not finite
  *     16 Sigma      a chart's sigma is not finite or not above 0
@@ -49,10 +49,11 @@
  *
  * - Refusals are tried in a fixed order, and the first that holds is given:
  *
- *     both searches                10, then 1 to 9
- *     records and signal points    15 to 18, then 6, 7
- *     run length                   10, then 15 to 18, then 8
- *     piece summary                6, 12
+ *     both searches                        10, then 1 to 9
+ *     records and signal points of CUSUM   15 to 18, then 6, 7
+ *     records and signal points of EWMA    10, then 15 to 18, then 6, 7
+ *     run length                           10, then 15 to 18, then 8
+ *     piece summary                        6, 12
  *
  * - Single results are written on every call. On a refusal they are 0, but for the channel and the
  *   index of a search's 8, both counted from 0: the lowest channel with such a reading, and there the
@@ -102,6 +103,7 @@ enum { OVERBRINDLE_BIC = 0, OVERBRINDLE_CUSTOM = 1 };    /* penalty_kind; BIC do
 enum { OVERBRINDLE_UPPER = 0, OVERBRINDLE_LOWER = 1 };   /* sum */
 enum { OVERBRINDLE_NONE = 0, OVERBRINDLE_ABOVE = 1,      /* side of a record */
        OVERBRINDLE_BELOW = 2, OVERBRINDLE_BOTH = 3 };
+enum { OVERBRINDLE_EDITION_1 = 1, OVERBRINDLE_EDITION_2 = 2 };   /* edition of an EWMA chart's limits */
 enum { OVERBRINDLE_SLOT = 200 };                         /* floats of the pool for one candidate */
 
 /* The cuts of k channels of n readings: the indices at which a new piece begins, lowest first, in the
@@ -140,14 +142,24 @@ uint32_t overbrindle_piece_summary(const double *channel, size_t channel_len,
  * where both are. EWMA: above where the statistic is above ucl, below where it is below lcl, never both.
  * A reading that is not finite is a gap: it carries the sums or the statistic on, and its side is none.
  * Settings, all finite: sigma, h and l_factor above 0, k not below 0, lambda above 0 and at most 1.
- * Usual ones are k 0.5, h 5, lambda 0.2 and l_factor 3. */
+ * Usual ones are k 0.5, h 5, lambda 0.2 and l_factor 3.
+ *
+ * The limits of EWMA begin narrow and widen with a reading's place. The edition says how places are
+ * counted; it is 1 or 2, and there is no usual one. Without gaps both give the same records.
+ *   OVERBRINDLE_EDITION_1: the place is the index and 1, so the limits widen at a gap too. Take it for
+ *     charts that were filed under it, and where the answers have to equal those of u-analytics.
+ *   OVERBRINDLE_EDITION_2: the place is the number of finite readings up to and with this one, so the
+ *     limits do not widen while nothing is measured. A gap repeats the limits before it to the bit;
+ *     before the first finite reading the place is 0, and both limits are the target (NaN where
+ *     l_factor times sigma is infinite). Take it for new charts whose logs have gaps.
+ * Both stay, because a filed chart has to be redrawn as it was made. */
 uint32_t overbrindle_cusum_analyze(double target, double sigma, double k, double h,
     const double *data, size_t data_len, double *s_upper, size_t s_upper_len,
     double *s_lower, size_t s_lower_len, uint8_t *side, size_t side_len,
     size_t *index, size_t index_len, size_t *count);
 
 uint32_t overbrindle_ewma_analyze(double target, double sigma, double lambda, double l_factor,
-    const double *data, size_t data_len, double *ewma, size_t ewma_len,
+    uint32_t edition, const double *data, size_t data_len, double *ewma, size_t ewma_len,
     double *ucl, size_t ucl_len, double *lcl, size_t lcl_len,
     uint8_t *side, size_t side_len, size_t *index, size_t index_len, size_t *count);
 
@@ -157,7 +169,8 @@ uint32_t overbrindle_cusum_signal_points(double target, double sigma, double k, 
     const double *data, size_t data_len, size_t *points, size_t points_len, size_t *count);
 
 uint32_t overbrindle_ewma_signal_points(double target, double sigma, double lambda, double l_factor,
-    const double *data, size_t data_len, size_t *points, size_t points_len, size_t *count);
+    uint32_t edition, const double *data, size_t data_len, size_t *points, size_t points_len,
+    size_t *count);
 
 /* The reading, 1 to 4,096, at which a fresh CUSUM chart that is fed level alone first has this sum above
  * h; 0 where none does. Where it is N, the Nth of any next N finite readings at or beyond level, in any

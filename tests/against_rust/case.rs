@@ -1,7 +1,7 @@
 //! A call of any sort: whether its answer is right, how it is printed, and which calls are smaller.
 
 use crate::calls::{Call, Lent};
-use crate::charts::{self, Chart, RunLength};
+use crate::charts::{self, Chart, Kind, RunLength};
 use crate::faults::Fault;
 use crate::heard::Heard;
 use crate::lending::Area;
@@ -30,7 +30,8 @@ pub enum Case {
 #[derive(Default)]
 pub struct Lending {
     search: searches::Areas,
-    chart: charts::Areas,
+    /// The second of a chart are for the other edition.
+    chart: [charts::Areas; 2],
     noise: Area,
 }
 
@@ -378,6 +379,21 @@ fn constructor(by_new: bool) -> &'static str {
     }
 }
 
+fn write_chart(f: &mut fmt::Formatter, chart: &Chart) -> fmt::Result {
+    let asked = match chart.points {
+        true => "signal_points",
+        false => "analyze",
+    };
+    match chart.kind {
+        Kind::Cusum => write!(f, "Cusum")?,
+        Kind::Ewma => write!(f, "Ewma of edition {}", chart.edition)?,
+    }
+    let (by, settings) = (constructor(chart.by_new), Values(&chart.settings));
+    write!(f, " by {by}, {asked}: settings {settings}")?;
+    write!(f, ", areas longer by {:?}", chart.spare)?;
+    write!(f, ", readings {}", Values(&chart.readings))
+}
+
 impl fmt::Display for Case {
     fn fmt(&self, f: &mut fmt::Formatter) -> fmt::Result {
         match self {
@@ -411,22 +427,7 @@ impl fmt::Display for Case {
                 )?;
                 write!(f, ", readings {}", Values(&call.readings))
             }
-            Case::Chart(chart) => {
-                let asked = if chart.points {
-                    "signal_points"
-                } else {
-                    "analyze"
-                };
-                write!(
-                    f,
-                    "{:?} by {}, {asked}: settings {}",
-                    chart.kind,
-                    constructor(chart.by_new),
-                    Values(&chart.settings)
-                )?;
-                write!(f, ", areas longer by {:?}", chart.spare)?;
-                write!(f, ", readings {}", Values(&chart.readings))
-            }
+            Case::Chart(chart) => write_chart(f, chart),
             Case::RunLength(asked) => {
                 let by = constructor(asked.by_new);
                 write!(

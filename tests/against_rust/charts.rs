@@ -1,7 +1,8 @@
 //! Charts and run lengths: what they have to answer and to leave, by the unmodified Rust and by rule 2.1's
 //! table of refusals, and whether they do.
 
-use crate::charted::{self, Answer, Record};
+use crate::charted::{self, Answer, Edition, Record};
+use crate::editions::{self, FIRST, SECOND};
 use crate::faults::Fault;
 use crate::lending::{same_float, same_word, Area, Bytes, Rest, Word};
 use crate::rules::pattern;
@@ -19,11 +20,13 @@ const MOST_READINGS: usize = 4096;
 /// What docs/DIFFERENCES.md says of powers.
 const POWERS: &str = "`powi`";
 
-/// A chart's records or signal points, of a chart made by `new` or with parameters. Each area has as many
-/// places as there are readings, and as many more or less as `spare` says, whose last is for the signal points.
+/// A chart's records or signal points, of a chart made by `new` or with parameters. The edition is any number; a
+/// CUSUM chart does not look at it. Each area has as many places as there are readings, and as many more or less
+/// as `spare` says, whose last is for the signal points.
 #[derive(Clone)]
 pub struct Chart {
     pub kind: Kind,
+    pub edition: u32,
     pub by_new: bool,
     pub settings: [f64; 4],
     pub readings: Rc<Vec<f64>>,
@@ -66,13 +69,14 @@ pub fn cusum(settings: [f64; 4]) -> CusumSettings {
     }
 }
 
-fn ewma(settings: [f64; 4]) -> EwmaSettings {
+fn ewma(settings: [f64; 4], edition: u32) -> EwmaSettings {
     let [target, sigma, lambda, l_factor] = settings;
     EwmaSettings {
         target,
         sigma,
         lambda,
         l_factor,
+        edition,
     }
 }
 
@@ -107,29 +111,43 @@ impl Chart {
         }
     }
 
+    /// The edition of an EWMA chart, if its number names one, and that of a CUSUM chart, which has none.
+    pub fn edition(&self) -> Option<Edition> {
+        match self.kind {
+            Kind::Cusum => Some(Edition::First),
+            Kind::Ewma => editions::named(self.edition),
+        }
+    }
+
     /// The refusals whose conditions the call meets, each by itself, in the order of rule 2.4.
     fn met(&self, fault: Fault) -> Result<Vec<u32>, String> {
-        let mut met = met_by_settings(self.kind, &self.made_with(), fault)?;
+        let mut met: Vec<u32> = met_by([(self.edition().is_none(), FORM)]).collect();
+        met.extend(met_by_settings(self.kind, &self.made_with(), fault)?);
         let tests = [
             (self.readings.len() > MOST_READINGS, TOO_LONG),
             (self.short(), ROOM),
         ];
         met.extend(met_by(tests));
+        editions::postpone(fault, &mut met, FORM);
         Ok(met)
     }
 
     /// What the Rust makes of it. EWMA's limits take a power, which the Rust leaves open: its records are
-    /// those of a copy with rule 4.2's, from which the unmodified ones may differ by that alone.
+    /// those of a copy with rule 4.2's, from which the unmodified ones may differ by that alone. Of the second
+    /// edition both are copies in which the place is counted. Without a fault no other number comes this far.
     fn records(&self, fault: Fault) -> Result<(Answer, Option<&'static str>), String> {
-        let settings = self.made_with();
+        let (settings, readings) = (self.made_with(), &self.readings[..]);
         if self.kind == Kind::Cusum {
-            let answer = charted::cusum_answer(&settings, &self.readings);
+            let answer = charted::cusum_answer(&settings, readings);
             return Ok((sided(answer)?, None));
         }
-        let mut unmodified = sided(charted::ewma_answer(&settings, &self.readings))?;
+        let edition = self.edition().unwrap_or(Edition::Second);
+        let [unmodified, ruled] = editions::answers(edition, &settings, readings);
+        let mut unmodified = sided(unmodified)?;
         damage_unmodified(fault, &mut unmodified);
-        let ruled = sided(ruled_answer(&settings, &self.readings))?;
+        let mut ruled = sided(ruled)?;
         let named = differ_by_powers(&unmodified, &ruled)?.then_some(POWERS);
+        editions::misplace(fault, edition, (&settings, readings), &mut ruled);
         Ok((ruled, named))
     }
 
@@ -144,25 +162,70 @@ impl Chart {
         Ok(Due { answer, named })
     }
 
-    /// The package sizes the room itself, so it does not meet the refusal of room.
+    /// The package sizes the room itself, so it does not meet the refusal of room. It has no number that names no
+    /// edition.
     fn check_package(&self, due: &Due, fault: Fault) -> Result<(), String> {
+        let Some(edition) = self.edition() else {
+            return Ok(());
+        };
         match due.answer {
-            Err(ROOM) => wrapped::chart(self, &self.due(&[], fault)?.answer),
-            _ => wrapped::chart(self, &due.answer),
+            Err(ROOM) => wrapped::chart(self, edition, &self.due(&[], fault)?.answer),
+            _ => wrapped::chart(self, edition, &due.answer),
         }
     }
 
-    pub fn check(&self, areas: &mut Areas, fault: Fault) -> Result<Outcome, String> {
+    /// The same chart by the other edition, where the library's answers of both have to be one: there is no gap.
+    fn other_edition(&self) -> Option<Chart> {
+        let edition = match (self.kind, self.edition) {
+            (Kind::Ewma, FIRST) => SECOND,
+            (Kind::Ewma, SECOND) => FIRST,
+            _ => return None,
+        };
+        let chart = || Chart {
+            edition,
+            ..self.clone()
+        };
+        let gaps = self.readings.iter().any(|reading| !reading.is_finite());
+        (!gaps).then(chart)
+    }
+
+    /// Asks the library by the other edition too, and compares what both said and left, record for record.
+    fn compare_editions(
+        &self,
+        said: (u32, usize),
+        [areas, others]: &mut [Areas; 2],
+        fault: Fault,
+    ) -> Result<(), String> {
+        let Some(other) = self.other_edition() else {
+            return Ok(());
+        };
+        others.lend(&other);
+        let by_other = other.ask(others);
+        if fault.is("editions apart without a gap") {
+            others.change_last(&other, by_other);
+        }
+        match said == by_other {
+            true => areas.compare(others),
+            false => Err(format!(
+                "number and count are {said:?}, and {by_other:?} by edition {}",
+                other.edition
+            )),
+        }
+    }
+
+    pub fn check(&self, areas: &mut [Areas; 2], fault: Fault) -> Result<Outcome, String> {
         let met = self.met(fault)?;
         let due = self.due(&met, fault)?;
-        areas.lend(self);
-        let mut said = self.ask(areas);
-        damage(fault, self, &mut said, areas);
-        self.compare(&due.answer, said, areas)?;
+        areas[0].lend(self);
+        let mut said = self.ask(&mut areas[0]);
+        damage(fault, self, &mut said, &mut areas[0]);
+        self.compare(&due.answer, said, &areas[0])?;
+        self.compare_editions(said, areas, fault)?;
         self.check_package(&due, fault)?;
-        let outcome = match &due.answer {
-            Err(_) => told(&met),
-            Ok(answer) => signalled(answer).into(),
+        let outcome = match (&due.answer, self.edition()) {
+            (Err(_), _) => told(&met),
+            (Ok(answer), Some(Edition::Second)) => format!("{} by edition 2", signalled(answer)),
+            (Ok(answer), _) => signalled(answer).into(),
         };
         let named = due.named;
         Ok(Outcome { outcome, named })
@@ -173,9 +236,10 @@ impl Chart {
         let points = areas.points.indices();
         let [first, second, third] = &mut areas.values;
         let (side, index) = (areas.side.bytes(), areas.index.indices());
+        let ewma = ewma(self.settings, self.edition);
         match (self.kind, self.points) {
             (Kind::Cusum, true) => lent::cusum_signal_points(cusum(self.settings), data, points),
-            (Kind::Ewma, true) => lent::ewma_signal_points(ewma(self.settings), data, points),
+            (Kind::Ewma, true) => lent::ewma_signal_points(ewma, data, points),
             (Kind::Cusum, false) => {
                 let areas = lent::CusumAreas {
                     s_upper: first.floats(),
@@ -193,7 +257,7 @@ impl Chart {
                     side,
                     index,
                 };
-                lent::ewma_analyze(ewma(self.settings), data, areas)
+                lent::ewma_analyze(ewma, data, areas)
             }
         }
     }
@@ -311,26 +375,6 @@ fn sided(answer: Option<Answer>) -> Result<Answer, String> {
     }
 }
 
-/// What a copy of `ewma.rs` with rule 4.2's powers makes of a series.
-fn ruled_answer(settings: &Settings, readings: &[f64]) -> Option<Answer> {
-    let [target, sigma, lambda, l_factor] = settings.values;
-    let chart = match settings.by_new {
-        true => ewma_ruled::Ewma::new(target, sigma)?,
-        false => ewma_ruled::Ewma::with_params(target, sigma, lambda, l_factor)?,
-    };
-    let record = |(r, &reading): (ewma_ruled::EwmaResult, &f64)| Record {
-        values: vec![r.ewma, r.ucl, r.lcl],
-        side: charted::ewma_side(reading, [r.ewma, r.ucl, r.lcl]),
-        signal: r.signal,
-        index: r.index,
-    };
-    let records = chart.analyze(readings).into_iter().zip(readings);
-    Some(Answer {
-        records: records.map(record).collect(),
-        points: chart.signal_points(readings),
-    })
-}
-
 /// Whether the platform's power gives this record other limits than rule 4.2's. It may move the limits
 /// and, where it does, the side; nothing where more than that differs.
 fn limits_moved(by_rule: &Record, by_platform: &Record) -> Option<bool> {
@@ -365,6 +409,28 @@ impl Areas {
         self.side.lend(chart.size(3));
         self.index.lend(chart.size(4));
         self.points.lend(chart.size(5));
+    }
+
+    /// Whether these areas have in every place what those of the other edition have.
+    fn compare(&self, others: &Areas) -> Result<(), String> {
+        for (at, (area, other)) in self.values.iter().zip(&others.values).enumerate() {
+            area.same_as(&format!("value {at} by both editions"), other, same_float)?;
+        }
+        self.side.same_as("sides by both editions", &others.side)?;
+        let (indices, points) = ("indices by both editions", "points by both editions");
+        self.index.same_as(indices, &others.index, same_word)?;
+        self.points.same_as(points, &others.points, same_word)
+    }
+
+    /// Puts a fault into the last record or point of an answer.
+    fn change_last(&mut self, chart: &Chart, (number, count): (u32, usize)) {
+        if number == 0 && count > 0 {
+            let area = match chart.points {
+                true => &mut self.points,
+                false => &mut self.index,
+            };
+            area.words()[count - 1] ^= 1;
+        }
     }
 }
 

@@ -5,6 +5,7 @@ use crate::calls::{Call, Lent, Settings, SLOT};
 use crate::case::Case;
 use crate::charts::{Chart, Kind, RunLength};
 use crate::edges;
+use crate::editions::{self, FIRST, SECOND};
 use crate::families::{self, any_settings, exhaustive, l2, normal, L2_BIC, NORMAL_BIC};
 use crate::inputs::Random;
 use crate::noises::Noise;
@@ -32,7 +33,7 @@ const STORED_SHARES: [usize; 18] = [
     2_000, 6_000, 492, 62,
 ];
 
-const DRAWN: [(&str, usize, Drawn); 13] = [
+const DRAWN: [(&str, usize, Drawn); 14] = [
     ("about every limit", 120_000, about_limits),
     ("about 4,096 readings", 260, about_longest),
     (
@@ -48,13 +49,16 @@ const DRAWN: [(&str, usize, Drawn); 13] = [
     ("CUSUM records", 70_000, |random| {
         records(random, Kind::Cusum)
     }),
-    ("EWMA records", 70_000, |random| records(random, Kind::Ewma)),
+    ("EWMA records", 110_000, |random| {
+        records(random, Kind::Ewma)
+    }),
     ("CUSUM signal points", 40_000, |random| {
         points(random, Kind::Cusum)
     }),
-    ("EWMA signal points", 40_000, |random| {
+    ("EWMA signal points", 60_000, |random| {
         points(random, Kind::Ewma)
     }),
+    ("numbers that name no edition", 4_000, unknown_editions),
     ("charts of 4,095 to 4,097 readings", 600, longest_charts),
     ("run lengths", 20_000, run_lengths),
     ("noise variances", 30_000, noises),
@@ -282,7 +286,7 @@ fn chart_cases(random: &mut Random, kind: Kind) -> Vec<(ChartSettings, Vec<f64>)
 }
 
 /// A chart in room of exactly as many places as readings; at times an area has a place less, or more.
-fn chart(
+pub fn chart(
     random: &mut Random,
     kind: Kind,
     (settings, readings): (ChartSettings, Vec<f64>),
@@ -296,6 +300,7 @@ fn chart(
     }
     Chart {
         kind,
+        edition: FIRST,
         by_new: settings.by_new,
         settings: settings.values,
         readings: Rc::new(readings),
@@ -304,10 +309,25 @@ fn chart(
     }
 }
 
+/// An EWMA chart by each edition, the first before the second, and a CUSUM chart, which has none, as it is.
+pub fn by_each_edition(chart: Chart) -> Vec<Case> {
+    let editions = match chart.kind {
+        Kind::Cusum => vec![FIRST],
+        Kind::Ewma => vec![FIRST, SECOND],
+    };
+    let by = |edition| {
+        Case::Chart(Chart {
+            edition,
+            ..chart.clone()
+        })
+    };
+    editions.into_iter().map(by).collect()
+}
+
 fn records(random: &mut Random, kind: Kind) -> Vec<Case> {
     let cases = chart_cases(random, kind).into_iter();
     cases
-        .map(|case| Case::Chart(chart(random, kind, case)))
+        .flat_map(|case| by_each_edition(chart(random, kind, case)))
         .collect()
 }
 
@@ -321,6 +341,20 @@ fn points(random: &mut Random, kind: Kind) -> Vec<Case> {
     cases
 }
 
+/// EWMA charts whose edition is no number of the boundary: refused before all else. Those of which settings are
+/// refused too come first.
+fn unknown_editions(random: &mut Random) -> Vec<Case> {
+    let cases = chart_cases(random, Kind::Ewma).into_iter().rev();
+    let unknown = |case| {
+        Case::Chart(Chart {
+            edition: pick(random, &editions::UNKNOWN),
+            points: random.below(2) == 0,
+            ..chart(random, Kind::Ewma, case)
+        })
+    };
+    cases.map(unknown).collect()
+}
+
 fn longest_charts(random: &mut Random) -> Vec<Case> {
     let kind = pick(random, &[Kind::Cusum, Kind::Ewma]);
     let settings = match kind {
@@ -330,9 +364,9 @@ fn longest_charts(random: &mut Random) -> Vec<Case> {
     let [target, sigma, ..] = settings.values;
     let n = pick(random, &[4095, 4096, 4096, 4097]);
     let readings = pick(random, &SERIES_KINDS)(random, target, sigma, n);
-    let mut case = chart(random, kind, (settings, readings));
-    case.points = random.below(2) == 0;
-    vec![Case::Chart(case)]
+    let mut longest = chart(random, kind, (settings, readings));
+    longest.points = random.below(2) == 0;
+    by_each_edition(longest)
 }
 
 fn run_lengths(random: &mut Random) -> Vec<Case> {

@@ -1,24 +1,25 @@
 //! Families about edges: room that is exactly full, or one place short; more readings than are taken;
-//! conditions of several refusals at once; and series that promise 3 speaks of.
+//! conditions of several refusals at once; gaps in every pattern; and series that promise 3 speaks of.
 
 use crate::calls::{Call, Lent, SLOT};
 use crate::case::Case;
 use crate::charted::{usual, wrong_settings};
 use crate::charts::{Chart, Kind, RunLength};
-use crate::drawn::{pick, search, Drawn};
+use crate::drawn::{by_each_edition, chart, pick, search, Drawn};
+use crate::editions::{self, FIRST, SECOND};
 use crate::families::{any_settings, at_least, l2};
 use crate::heard::Heard;
 use crate::inputs::Random;
 use crate::noises::Noise;
 use crate::pieces::Piece;
 use crate::series::{self, fraction, Settings, SERIES_KINDS};
-use crate::{charted, runs};
+use crate::{charted, gapped, runs};
 use std::rc::Rc;
 
 const MOST_READINGS: usize = 4096;
 const NOT_FINITE: [f64; 3] = [f64::NAN, f64::INFINITY, f64::NEG_INFINITY];
 
-pub const EDGES: [(&str, usize, Drawn); 8] = [
+pub const EDGES: [(&str, usize, Drawn); 9] = [
     (
         "searches in room exactly full, or a place short",
         6_000,
@@ -44,6 +45,7 @@ pub const EDGES: [(&str, usize, Drawn); 8] = [
         8_000,
         run_lengths_refused_twice,
     ),
+    ("gaps in every pattern, EWMA", 30_000, every_gap),
     ("pieces of more than 4,096 readings", 600, too_long_pieces),
     ("levels that are heard (promise 3)", 20_000, heard_levels),
     ("levels that are heard late (promise 3)", 400, heard_late),
@@ -122,6 +124,7 @@ fn full_charts(random: &mut Random) -> Vec<Case> {
         let n = pick(random, &[0, 1, 2, 3, 17, 60, 4095, 4096]);
         let full = Chart {
             kind,
+            edition: FIRST,
             by_new: random.below(2) == 0,
             settings: usual(kind),
             readings: Rc::new(signalling(random, n)),
@@ -141,7 +144,21 @@ fn full_charts(random: &mut Random) -> Vec<Case> {
         short.spare[5] = -1;
         cases.extend([short, points, full]);
     }
-    cases.into_iter().map(Case::Chart).collect()
+    cases.into_iter().flat_map(by_each_edition).collect()
+}
+
+/// EWMA charts by both editions on series with gaps first, in the middle, several on end, last, every so many, all
+/// but one, all, here and there, and none; records and signal points in turns.
+fn every_gap(random: &mut Random) -> Vec<Case> {
+    let mut cases = Vec::new();
+    for (at, case) in gapped::short_cases(random).into_iter().enumerate() {
+        let gapped = Chart {
+            points: at % 2 == 1,
+            ..chart(random, Kind::Ewma, case)
+        };
+        cases.extend(by_each_edition(gapped));
+    }
+    cases
 }
 
 /// From the first place of an area on, or a later one, to its last place or one further.
@@ -164,18 +181,24 @@ fn full_noises(random: &mut Random) -> Vec<Case> {
 }
 
 /// Every set of settings that are out of range, times too many readings or not, times too little room or not,
-/// for both calls of both charts. `at` numbers the rest of a case, and its settings follow faster.
+/// for both calls of both charts, an EWMA chart by each edition and by a number that names none. `at` numbers the
+/// rest of a case, and its settings follow faster.
 fn charts_refused_twice(random: &mut Random) -> Vec<Case> {
     let mut cases = Vec::new();
-    for (at, set) in (0..16).flat_map(|at| (0..16).map(move |set| (at, set))) {
-        let kind = [Kind::Cusum, Kind::Ewma][at & 1];
-        let points = at & 2 == 0;
-        let n = match at & 4 {
+    for (at, set) in (0..32).flat_map(|at| (0..16).map(move |set| (at, set))) {
+        let (kind, edition) = match at & 3 {
+            0 => (Kind::Ewma, pick(random, &editions::UNKNOWN)),
+            1 => (Kind::Cusum, FIRST),
+            2 => (Kind::Ewma, FIRST),
+            _ => (Kind::Ewma, SECOND),
+        };
+        let points = at & 4 == 0;
+        let n = match at & 8 {
             0 => MOST_READINGS + 1 + random.below(3) as usize,
             _ => pick(random, &[0, 1, 3, 40, MOST_READINGS]),
         };
         let mut spare = [0; 6];
-        if at & 8 == 0 {
+        if at & 16 == 0 {
             let area = match points {
                 true => 5,
                 false => pick(random, &[0, 1, 3, 4]),
@@ -184,6 +207,7 @@ fn charts_refused_twice(random: &mut Random) -> Vec<Case> {
         }
         cases.push(Case::Chart(Chart {
             kind,
+            edition,
             by_new: set < 4 && random.below(2) == 0,
             settings: wrong_settings(random, kind, set),
             readings: Rc::new(SERIES_KINDS[1](random, 0.0, 1.0, n)),

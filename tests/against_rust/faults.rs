@@ -6,7 +6,7 @@
 #[derive(Clone, Copy, Default)]
 pub struct Fault(Option<&'static str>);
 
-pub const FAULTS: [&str; 54] = [
+pub const FAULTS: [&str; 64] = [
     "search number",
     "search count",
     "search place",
@@ -43,6 +43,16 @@ pub const FAULTS: [&str; 54] = [
     "sigma before the target",
     "the weight before sigma",
     "the bound before the weight",
+    "the edition after the settings",
+    "the edition after all else",
+    "any number taken as edition 2",
+    "gaps left out in edition 1",
+    "gaps counted in edition 2",
+    "editions exchanged",
+    "edition 2 from place 1",
+    "no place 0 in edition 2",
+    "a gap's limits a place on",
+    "editions apart without a gap",
     "points",
     "points behind",
     "points beyond",

@@ -1,5 +1,6 @@
 //! Module `detection` of the package, by the signatures of the Rust: `None` where the Rust has it, and else the
-//! same answer. Where it panics, on more channels or readings than the library takes, it is not asked.
+//! same answer, which is that of the first edition of an EWMA chart. Where it panics, on more channels or readings
+//! than the library takes, it is not asked.
 
 use crate::calls::{self, Call};
 use crate::charts::{Chart, Kind};

@@ -90,6 +90,25 @@ impl Area {
         }
         Ok(())
     }
+
+    /// Whether an area that was lent as many places has the same in all of them, and about them; `same` compares
+    /// two words.
+    pub fn same_as(
+        &self,
+        name: &str,
+        other: &Area,
+        same: fn(Word, Word) -> bool,
+    ) -> Result<(), String> {
+        for (at, (&word, &by_other)) in self.words.iter().zip(&other.words).enumerate() {
+            if !same(word, by_other) {
+                let (at, size) = (at as isize - MARGIN as isize, self.size);
+                return Err(format!(
+                    "{name}: place {at} of {size} has {word:#x} and {by_other:#x}"
+                ));
+            }
+        }
+        Ok(())
+    }
 }
 
 /// An area of bytes.
@@ -124,6 +143,14 @@ impl Bytes {
             }
         }
         Ok(())
+    }
+
+    /// Whether an area that was lent as many places has the same in all of them, and about them.
+    pub fn same_as(&self, name: &str, other: &Bytes) -> Result<(), String> {
+        match self.1 == other.1 {
+            true => Ok(()),
+            false => Err(format!("{name}: {:?} and {:?}", self.1, other.1)),
+        }
     }
 }
 

@@ -17,11 +17,15 @@ mod charted;
 mod charts;
 mod drawn;
 mod edges;
+mod editions;
 mod elementary;
 #[allow(dead_code)]
 #[path = "../vectors/families.rs"]
 mod families;
 mod faults;
+#[allow(dead_code)]
+#[path = "../vectors/gapped.rs"]
+mod gapped;
 mod heard;
 mod in_place;
 #[allow(dead_code)]
@@ -140,7 +144,8 @@ fn compare_drawn(run: &mut Run, random: &mut Random, part: &str) {
     let shares: usize = families.iter().map(|family| family.share).sum();
     let left = run.count.saturating_sub(run.cases);
     for family in &families {
-        let count = (left * family.share).div_ceil(shares);
+        // An even number: of EWMA series two cases on end are the editions of one.
+        let count = (left * family.share).div_ceil(shares).next_multiple_of(2);
         let batches = std::iter::repeat_with(|| (family.draw)(random));
         run.family(&family.name, batches.flatten().take(count));
     }

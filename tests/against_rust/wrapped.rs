@@ -3,15 +3,15 @@
 //! answer what the Rust does.
 
 use crate::calls::{self, Call};
-use crate::charted::{Answer, Record, ABOVE, BELOW, BOTH};
+use crate::charted::{self, Answer, Record, ABOVE, BELOW, BOTH};
 use crate::charts::{Chart, Kind, RunLength};
 use crate::in_place;
 use crate::pieces::Piece;
 use crate::rules::pattern;
 use crate::series::Settings;
 use overbrindle::{
-    CostFunction, Cusum, CusumResult, Ewma, EwmaResult, MultiPeltResult, Pelt, PeltResult, Penalty,
-    PieceSummary, Refusal, Side, Sum,
+    CostFunction, Cusum, CusumResult, Edition, Ewma, EwmaResult, MultiPeltResult, Pelt, PeltResult,
+    Penalty, PieceSummary, Refusal, Side, Sum,
 };
 use std::fmt::Debug;
 
@@ -136,11 +136,15 @@ fn cusum(settings: &Settings) -> Result<Cusum, Refusal> {
     }
 }
 
-fn ewma(settings: &Settings) -> Result<Ewma, Refusal> {
+fn ewma(settings: &Settings, edition: charted::Edition) -> Result<Ewma, Refusal> {
     let [target, sigma, lambda, l_factor] = settings.values;
+    let edition = match edition {
+        charted::Edition::First => Edition::First,
+        charted::Edition::Second => Edition::Second,
+    };
     match settings.by_new {
-        true => Ewma::new(target, sigma),
-        false => Ewma::with_params(target, sigma, lambda, l_factor),
+        true => Ewma::new(target, sigma, edition),
+        false => Ewma::with_params(target, sigma, lambda, l_factor, edition),
     }
 }
 
@@ -182,15 +186,15 @@ fn ewma_charted(chart: &Ewma, points: bool, readings: &[f64]) -> Result<Charted<
 /// What the package makes of a chart, if its constructor makes it.
 fn charted(
     chart: &Chart,
+    edition: charted::Edition,
     due: &Result<Charted<Sided>, Refused>,
 ) -> Result<Option<Result<Charted<Sided>, Refusal>>, String> {
     let (settings, points, readings) = (chart.made_with(), chart.points, &chart.readings[..]);
     Ok(match chart.kind {
         Kind::Cusum => made("CUSUM", cusum(&settings), due)?
             .map(|chart| cusum_charted(&chart, points, readings)),
-        Kind::Ewma => {
-            made("EWMA", ewma(&settings), due)?.map(|chart| ewma_charted(&chart, points, readings))
-        }
+        Kind::Ewma => made("EWMA", ewma(&settings, edition), due)?
+            .map(|chart| ewma_charted(&chart, points, readings)),
     })
 }
 
@@ -212,14 +216,27 @@ fn due_charted<S>(
 }
 
 /// The chart's records or its signal points, whichever the case asks for, and then by module `detection`, whose
-/// records have the Rust's yes or no in place of a side.
-pub fn chart(chart: &Chart, due: &Result<Answer, u32>) -> Result<(), String> {
-    chart_here(chart, &due_charted(chart, due, due_side))?;
-    in_place::chart(chart, &due_charted(chart, due, |record| record.signal))
+/// records have the Rust's yes or no in place of a side. It has the first edition alone.
+pub fn chart(
+    chart: &Chart,
+    edition: charted::Edition,
+    due: &Result<Answer, u32>,
+) -> Result<(), String> {
+    chart_here(chart, edition, &due_charted(chart, due, due_side))?;
+    match edition {
+        charted::Edition::First => {
+            in_place::chart(chart, &due_charted(chart, due, |record| record.signal))
+        }
+        charted::Edition::Second => Ok(()),
+    }
 }
 
-fn chart_here(chart: &Chart, due: &Result<Charted<Sided>, Refused>) -> Result<(), String> {
-    match (charted(chart, due)?, due) {
+fn chart_here(
+    chart: &Chart,
+    edition: charted::Edition,
+    due: &Result<Charted<Sided>, Refused>,
+) -> Result<(), String> {
+    match (charted(chart, edition, due)?, due) {
         (None, _) => Ok(()),
         (Some(Ok(found)), Ok(due)) => found.compare("", due),
         (Some(found), due) => same("chart", &found.map_err(told), due),

@@ -45,6 +45,24 @@ fn print_charts(best: Best, random: &mut Random) {
     head("µs");
     let rows = charts::rows(best, &charts::flat(N));
     rows.iter().for_each(Row::print);
+    print_editions(best, random);
+}
+
+/// The editions of the EWMA chart where their places are far apart, and where the limits widen to the end.
+fn print_editions(best: Best, random: &mut Random) {
+    let drifting = charts::drifting(random, N);
+    let gapped = charts::gapped(drifting.clone());
+    let tables = [
+        ("every second a gap", &gapped, charts::LAMBDA),
+        ("lambda 0.001", &drifting, 0.001),
+        ("every second a gap, lambda 0.001", &gapped, 0.001),
+    ];
+    for (what, data, lambda) in tables {
+        println!("\nEWMA charts of {N} readings, {what}:\n");
+        head("µs");
+        let rows = charts::ewma_rows(best, data, lambda);
+        rows.iter().for_each(Row::print);
+    }
 }
 
 fn main() {

@@ -1,4 +1,5 @@
-//! What the Rust's charts make of a series, and the settings, series and levels that they are asked.
+//! What the Rust's charts make of a series, and the settings, series and levels that they are asked. The Rust has
+//! the first edition of the EWMA chart; the second is that of a copy in which the place is counted.
 
 use crate::inputs::Random;
 use crate::series::{self, Settings, SettingsKind, SERIES_KINDS};
@@ -45,6 +46,14 @@ impl Answer {
 pub enum Kind {
     Cusum,
     Ewma,
+}
+
+/// The editions of the EWMA chart: the place of a reading is its index and 1, or the number of finite readings up
+/// to and with it. A CUSUM chart has none, and does not look at it.
+#[derive(Clone, Copy, Debug, PartialEq)]
+pub enum Edition {
+    First,
+    Second,
 }
 
 /// The settings and the readings of a case.
@@ -111,30 +120,51 @@ pub fn cusum_answer(settings: &Settings, readings: &[f64]) -> Option<Answer> {
     })
 }
 
-pub fn ewma_answer(settings: &Settings, readings: &[f64]) -> Option<Answer> {
-    let chart = ewma_chart(settings)?;
-    let record = |(r, &reading): (ewma::EwmaResult, &f64)| Record {
-        values: vec![r.ewma, r.ucl, r.lcl],
-        side: ewma_side(reading, [r.ewma, r.ucl, r.lcl]),
-        signal: r.signal,
-        index: r.index,
+/// A function of this name that says what the EWMA chart of this library makes of a series. The library is the
+/// Rust's file, or a copy of it.
+macro_rules! ewma_answers {
+    ($name:ident, $library:ident) => {
+        pub fn $name(settings: &Settings, readings: &[f64]) -> Option<Answer> {
+            let [target, sigma, lambda, l_factor] = settings.values;
+            let chart = match settings.by_new {
+                true => $library::Ewma::new(target, sigma)?,
+                false => $library::Ewma::with_params(target, sigma, lambda, l_factor)?,
+            };
+            let record = |(r, &reading): ($library::EwmaResult, &f64)| Record {
+                values: vec![r.ewma, r.ucl, r.lcl],
+                side: $crate::charted::ewma_side(reading, [r.ewma, r.ucl, r.lcl]),
+                signal: r.signal,
+                index: r.index,
+            };
+            let records = chart.analyze(readings).into_iter().zip(readings);
+            Some(Answer {
+                records: records.map(record).collect(),
+                points: chart.signal_points(readings),
+            })
+        }
     };
-    let records = chart.analyze(readings).into_iter().zip(readings);
-    Some(Answer {
-        records: records.map(record).collect(),
-        points: chart.signal_points(readings),
-    })
 }
+#[allow(unused_imports)]
+pub(crate) use ewma_answers;
+
+ewma_answers!(ewma_answer, ewma);
+ewma_answers!(ewma_counted_answer, ewma_counted);
 
 /// What the Rust's chart makes of a series, if there is a chart with these settings.
 ///
 /// # Panics
 ///
 /// If the side of a record is none where the Rust signals, or another where it does not, as at a gap.
-pub fn answer(kind: Kind, settings: &Settings, readings: &[f64]) -> Option<Answer> {
-    let answer = match kind {
-        Kind::Cusum => cusum_answer(settings, readings)?,
-        Kind::Ewma => ewma_answer(settings, readings)?,
+pub fn answer(
+    kind: Kind,
+    edition: Edition,
+    settings: &Settings,
+    readings: &[f64],
+) -> Option<Answer> {
+    let answer = match (kind, edition) {
+        (Kind::Cusum, _) => cusum_answer(settings, readings)?,
+        (Kind::Ewma, Edition::First) => ewma_answer(settings, readings)?,
+        (Kind::Ewma, Edition::Second) => ewma_counted_answer(settings, readings)?,
     };
     let contradiction = answer.contradiction();
     assert_eq!(contradiction, None, "{kind:?} {:?}", settings.values);

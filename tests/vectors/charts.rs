@@ -1,15 +1,18 @@
-//! Writes stored answers of the Rust's charts, some 400 series of each, and run lengths of CUSUM charts:
-//! by the word `cusum` the standard input of the crate `replay_cusum`, and by `ewma` that of `replay_ewma`.
-//! `tests/vectors/run` makes them.
+//! Writes stored answers of the Rust's charts, some 400 series of each, run lengths of CUSUM charts, and some 570
+//! series by the second edition of the EWMA chart: by the word `cusum` the standard input of the crate
+//! `replay_cusum`, and by `ewma` that of `replay_ewma`. `tests/vectors/run` makes them.
 //!
-//! The files of the Rust are compiled as they are, so every answer is the unmodified Rust's. What the
-//! program wrote, how many records are of each side, and for an EWMA chart how many of the powers that it
-//! asked differ from the rule of docs/RULES.md, it says on standard error.
+//! The files of the Rust are compiled as they are, so every answer is the unmodified Rust's, but for those of the
+//! second edition, which the Rust does not have. These are made with a copy of `ewma.rs` in which the place of a
+//! reading is counted (`ewma_counted` of `tests/vectors/rust.sh`, 4 lines). What the program wrote, how many
+//! records are of each side, and for an EWMA chart how many of the powers that it asked differ from the rule of
+//! docs/RULES.md, it says on standard error.
 //!
 //! Numbers have their highest byte first, and values are bit patterns, every NaN of an answer as
 //! 7ff8000000000000. A case begins with a letter and the four settings, 8 bytes each.
 //!
-//! `n`, a chart by `new`, which has the last two settings of its own, or `p`, one by `with_params`:
+//! `n`, a chart by `new`, which has the last two settings of its own, or `p`, one by `with_params`; of an EWMA
+//! chart these are of the first edition, and `N` and `P` are the same of the second:
 //! the number of readings in 2 bytes, and 8 bytes for each reading; then a byte that is 0, or 15 to 18
 //! where the Rust makes no such chart, and with such a number the case ends; then what `signal_points` gives,
 //! their number and each of them in 2 bytes; then for each reading its record, 8 bytes for each value,
@@ -24,15 +27,20 @@
 //! 5.1, in the order in which the Rust tests them; that it makes no chart exactly where there is such a
 //! setting is asserted. Nor does it say on which side a record signals. The side is worked out by rules 5.2 to
 //! 5.4 from the Rust's own sums and limits; that it is not none exactly where the Rust signals is asserted.
+//!
+//! Of every series of the second edition the first is asked too. That both have the same statistics and sides of
+//! gaps, and without gaps the same records and points, and that the limits of the second are those that the first
+//! gives to the counted place, is asserted.
 
 mod charted;
+mod gapped;
 #[allow(dead_code)]
 mod inputs;
 #[allow(dead_code)]
 mod rules;
 mod series;
 
-use charted::{Answer, Case, Kind};
+use charted::{Answer, Case, Edition, Kind};
 use inputs::Random;
 use series::Settings;
 use std::io::{self, BufWriter, Write};
@@ -90,20 +98,29 @@ fn write_answer(out: &mut impl Write, answer: &Answer) -> io::Result<()> {
     Ok(())
 }
 
+fn letter(edition: Edition, by_new: bool) -> u8 {
+    match (edition, by_new) {
+        (Edition::First, true) => b'n',
+        (Edition::First, false) => b'p',
+        (Edition::Second, true) => b'N',
+        (Edition::Second, false) => b'P',
+    }
+}
+
 /// Writes a series with its answer, and counts them.
 fn write_series(
     out: &mut impl Write,
     written: &mut Written,
-    kind: Kind,
+    (kind, edition): (Kind, Edition),
     (settings, readings): &Case,
 ) -> io::Result<()> {
-    write_settings(out, if settings.by_new { b'n' } else { b'p' }, settings)?;
+    write_settings(out, letter(edition, settings.by_new), settings)?;
     write_short(out, readings.len())?;
     for reading in readings {
         out.write_all(&reading.to_bits().to_be_bytes())?;
     }
     written.series += 1;
-    let answer = charted::answer(kind, settings, readings);
+    let answer = charted::answer(kind, edition, settings, readings);
     let refused = charted::refused_by(kind, settings, answer.is_some());
     let Some(answer) = answer else {
         written.refused += 1;
@@ -122,10 +139,10 @@ fn report_sides(kind: Kind, sides: [usize; 4]) {
     assert_eq!(sides.map(|count| count > 0), due, "{kind:?}");
 }
 
-fn write_all(out: &mut impl Write, kind: Kind, cases: &[Case]) -> io::Result<()> {
+fn write_all(out: &mut impl Write, kind: Kind, edition: Edition, cases: &[Case]) -> io::Result<()> {
     let mut written = Written::default();
     for case in cases {
-        write_series(out, &mut written, kind, case)?;
+        write_series(out, &mut written, (kind, edition), case)?;
     }
     let Written {
         series, refused, ..
@@ -161,19 +178,25 @@ fn write_run_lengths(out: &mut impl Write, random: &mut Random) -> io::Result<()
 }
 
 fn write_cusum(out: &mut impl Write, random: &mut Random) -> io::Result<()> {
-    write_all(out, Kind::Cusum, &charted::cusum_cases(random))?;
+    let cases = charted::cusum_cases(random);
+    write_all(out, Kind::Cusum, Edition::First, &cases)?;
     write_run_lengths(out, random)
 }
 
-/// How many of the powers that the charts ask differ from the rule.
-fn report_powers(cases: &[Case]) {
+/// How many of the powers that the charts ask differ from the rule. A chart of the second edition asks for that of
+/// place 0 too, and for none beyond the number of finite readings.
+fn report_powers(edition: Edition, cases: &[Case]) {
     let (mut powers, mut differ) = (0, 0);
     for (settings, readings) in cases
         .iter()
         .filter(|(s, _)| charted::ewma_chart(s).is_some())
     {
         let base = 1.0 - settings.values[2];
-        for place in 1..=readings.len() {
+        let places = match edition {
+            Edition::First => 1..=readings.len(),
+            Edition::Second => 0..=readings.iter().filter(|x| x.is_finite()).count(),
+        };
+        for place in places {
             let platform = base.powi(2 * place as i32);
             powers += 1;
             differ +=
@@ -183,10 +206,33 @@ fn report_powers(cases: &[Case]) {
     eprintln!("{powers} powers, of which {differ} differ from the rule");
 }
 
+/// How many gaps there are, and how many records that have other limits or another side than the first edition's:
+/// all have to be many.
+fn report_editions(cases: &[Case]) {
+    let (mut records, mut gaps, mut moved, mut turned) = (0, 0, 0, 0);
+    for case in cases {
+        let answer = |edition| charted::answer(Kind::Ewma, edition, &case.0, &case.1);
+        if let (Some(first), Some(second)) = (answer(Edition::First), answer(Edition::Second)) {
+            let [limits, sides] = gapped::moved(case, &first, &second);
+            records += second.records.len();
+            gaps += case.1.iter().filter(|x| !x.is_finite()).count();
+            moved += limits;
+            turned += sides;
+        }
+    }
+    eprintln!("{gaps} gaps; {moved} records have other limits than the first edition's, and {turned} another side");
+    assert!(3 * gaps > records && 3 * moved > records && turned > 100);
+}
+
 fn write_ewma(out: &mut impl Write, random: &mut Random) -> io::Result<()> {
     let cases = charted::ewma_cases(random);
-    report_powers(&cases);
-    write_all(out, Kind::Ewma, &cases)
+    report_powers(Edition::First, &cases);
+    write_all(out, Kind::Ewma, Edition::First, &cases)?;
+    eprintln!("the second edition:");
+    let cases = gapped::cases(random);
+    report_powers(Edition::Second, &cases);
+    report_editions(&cases);
+    write_all(out, Kind::Ewma, Edition::Second, &cases)
 }
 
 fn main() -> io::Result<()> {

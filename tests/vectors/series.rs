@@ -73,7 +73,7 @@ const SIZES: [f64; 10] = [
     f64::MAX,
 ];
 
-fn pick(random: &mut Random, values: &[f64]) -> f64 {
+pub fn pick<T: Copy>(random: &mut Random, values: &[T]) -> T {
     values[random.below(values.len() as u64) as usize]
 }
 

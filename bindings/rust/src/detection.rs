@@ -10,10 +10,13 @@
 //! would read as "nothing found". The types of the package's root answer with a `Result` instead, and have
 //! the strict searches, which refuse a reading that is not finite. Their records say on which side a reading
 //! signals; those of u-analytics say only whether it does.
+//!
+//! Nor have they a place for the edition of an EWMA chart. Here it is always [`Edition::First`], which is
+//! u-analytics' own: the limits widen at a reading that is not finite too.
 
 pub use crate::{CostFunction, MultiPeltResult, PeltResult, Penalty};
 
-use crate::Refusal;
+use crate::{Edition, Refusal};
 
 /// The answer, or a panic with the refusal's text.
 #[track_caller]
@@ -182,7 +185,7 @@ impl EwmaResult {
     }
 }
 
-/// An EWMA chart.
+/// An EWMA chart, always of [`Edition::First`].
 ///
 /// ```
 /// use overbrindle::detection::Ewma;
@@ -197,12 +200,13 @@ impl Ewma {
     /// A chart with lambda 0.2 and L 3. `None` if the target is not finite, or sigma not finite or not above
     /// 0.
     pub fn new(target: f64, sigma: f64) -> Option<Self> {
-        crate::Ewma::new(target, sigma).ok().map(Ewma)
+        let made = crate::Ewma::new(target, sigma, Edition::First);
+        made.ok().map(Ewma)
     }
 
     /// A chart with a weight lambda and a width L of its own. `None` if a setting is out of range.
     pub fn with_params(target: f64, sigma: f64, lambda: f64, l_factor: f64) -> Option<Self> {
-        let made = crate::Ewma::with_params(target, sigma, lambda, l_factor);
+        let made = crate::Ewma::with_params(target, sigma, lambda, l_factor, Edition::First);
         made.ok().map(Ewma)
     }
 

@@ -237,8 +237,8 @@ pub fn cusum_run_length(settings: CusumSettings, level: f64, sum: u32) -> (u32, 
     (number, reading)
 }
 
-/// The settings of an EWMA chart. Any floats may be given: the first that is out of range is refusal 15 to 18,
-/// in the order of the fields.
+/// The settings of an EWMA chart. Any numbers may be given. The edition is looked at first; then the first float
+/// that is out of range is refusal 15 to 18, in the order of the fields.
 #[derive(Clone, Copy, Debug, PartialEq)]
 pub struct EwmaSettings {
     /// The mean of the process, finite.
@@ -249,6 +249,9 @@ pub struct EwmaSettings {
     pub lambda: f64,
     /// The width of the limits, finite and above 0.
     pub l_factor: f64,
+    /// 1 for [`Edition::First`](crate::Edition::First), 2 for [`Edition::Second`](crate::Edition::Second); any
+    /// other is refusal 10.
+    pub edition: u32,
 }
 
 /// What an EWMA chart is lent for its records: each slice has an element for each reading.
@@ -272,6 +275,7 @@ pub fn ewma_analyze(settings: EwmaSettings, data: &[f64], areas: EwmaAreas) -> (
         sigma,
         lambda,
         l_factor,
+        edition,
     } = settings;
     let EwmaAreas {
         ewma,
@@ -283,7 +287,7 @@ pub fn ewma_analyze(settings: EwmaSettings, data: &[f64], areas: EwmaAreas) -> (
     let mut count = UNWRITTEN;
     let number = call!(
         c::overbrindle_ewma_analyze;
-        target, sigma, lambda, l_factor;
+        target, sigma, lambda, l_factor, edition;
         data;
         ewma, ucl, lcl, side, index;
         &mut count
@@ -303,10 +307,15 @@ pub fn ewma_signal_points(
         sigma,
         lambda,
         l_factor,
+        edition,
     } = settings;
     let mut count = UNWRITTEN;
     let number = call!(
-        c::overbrindle_ewma_signal_points; target, sigma, lambda, l_factor; data; points; &mut count
+        c::overbrindle_ewma_signal_points;
+        target, sigma, lambda, l_factor, edition;
+        data;
+        points;
+        &mut count
     );
     (number, count)
 }

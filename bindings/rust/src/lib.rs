@@ -46,7 +46,7 @@ mod side;
 
 pub use cusum::{Cusum, CusumResult, Sum};
 pub use elementary::{ln, powi, sqrt};
-pub use ewma::{Ewma, EwmaResult};
+pub use ewma::{Edition, Ewma, EwmaResult};
 pub use measures::{noise_variance, piece_summary, PieceSummary};
 pub use pelt::{CostFunction, MultiPeltResult, Pelt, PeltResult, Penalty};
 pub use refusal::Refusal;

@@ -43,7 +43,7 @@ pub enum Refusal {
     },
     /// 9: the search needs more candidate slots than were lent.
     Pool,
-    /// 10: a number stands for no cost, penalty or sum.
+    /// 10: a number stands for no cost, penalty, sum or edition.
     Form,
     /// 12: the start of the piece is not below its end, or its end is past the channel.
     Piece,
@@ -129,7 +129,7 @@ impl Refusal {
                 format!("reading {index} of channel {channel} is not finite")
             }
             Refusal::Pool => "the search needs more candidate slots than were lent".into(),
-            Refusal::Form => "a number stands for no cost, penalty or sum".into(),
+            Refusal::Form => "a number stands for no cost, penalty, sum or edition".into(),
             Refusal::Piece => "the piece is empty or ends past the channel".into(),
             Refusal::Target => "the target is not finite".into(),
             Refusal::Sigma => "sigma is not finite or not above 0".into(),

@@ -1,15 +1,20 @@
 //! Charts over nothing and at their limits, the sides of their records, and the promise that a lasting shift is
 //! signalled.
 
-use overbrindle::{noise_variance, Cusum, CusumResult, Ewma, Side, Sum, MAX_READINGS};
+use overbrindle::{noise_variance, Cusum, CusumResult, Edition, Ewma, Side, Sum, MAX_READINGS};
+
+const EDITIONS: [Edition; 2] = [Edition::First, Edition::Second];
 
 #[test]
 fn nothing_is_charted() {
-    let (cusum, ewma) = (Cusum::new(0.0, 1.0).unwrap(), Ewma::new(0.0, 1.0).unwrap());
+    let cusum = Cusum::new(0.0, 1.0).unwrap();
     assert_eq!(cusum.analyze(&[]).unwrap(), []);
     assert_eq!(cusum.signal_points(&[]).unwrap(), []);
-    assert_eq!(ewma.analyze(&[]).unwrap(), []);
-    assert_eq!(ewma.signal_points(&[]).unwrap(), []);
+    for edition in EDITIONS {
+        let ewma = Ewma::new(0.0, 1.0, edition).unwrap();
+        assert_eq!(ewma.analyze(&[]).unwrap(), []);
+        assert_eq!(ewma.signal_points(&[]).unwrap(), []);
+    }
     assert_eq!(noise_variance(&[]), 0.0);
 }
 
@@ -30,8 +35,10 @@ fn as_many_readings_as_there_may_be() {
         cusum.signal_points(&readings).unwrap().len(),
         MAX_READINGS - 10
     );
-    let ewma = Ewma::new(0.0, 1.0).unwrap();
-    assert_eq!(ewma.analyze(&readings).unwrap().len(), MAX_READINGS);
+    for edition in EDITIONS {
+        let ewma = Ewma::new(0.0, 1.0, edition).unwrap();
+        assert_eq!(ewma.analyze(&readings).unwrap().len(), MAX_READINGS);
+    }
 }
 
 /// The sides of a CUSUM chart with target 0, sigma 1, k 0.5 and h 5.
@@ -40,11 +47,17 @@ fn cusum_sides(readings: &[f64]) -> Vec<Side> {
     records.iter().map(|record| record.side).collect()
 }
 
-/// The sides of an EWMA chart whose statistic is the reading and whose limits are -3 and 3.
+/// The sides of an EWMA chart whose statistic is the reading and whose limits are -3 and 3, which both editions
+/// have to give.
 fn ewma_sides(readings: &[f64]) -> Vec<Side> {
-    let chart = Ewma::with_params(0.0, 1.0, 1.0, 3.0).unwrap();
-    let records = chart.analyze(readings).unwrap();
-    records.iter().map(|record| record.side).collect()
+    let [first, second] = EDITIONS.map(|edition| {
+        let chart = Ewma::with_params(0.0, 1.0, 1.0, 3.0, edition).unwrap();
+        let records = chart.analyze(readings).unwrap();
+        let sides = records.iter().map(|record| record.side);
+        sides.collect::<Vec<Side>>()
+    });
+    assert_eq!(first, second);
+    first
 }
 
 #[test]
@@ -80,10 +93,12 @@ fn a_statistic_is_outside_one_limit() {
 
 #[test]
 fn limits_that_are_no_numbers_are_on_no_side() {
-    let chart = Ewma::with_params(0.0, 1e200, 1e-300, 1e200).unwrap();
-    let record = chart.analyze(&[1.0]).unwrap().pop().unwrap();
-    assert!(record.ucl.is_nan() && record.lcl.is_nan());
-    assert_eq!(record.side, Side::None);
+    for edition in EDITIONS {
+        let chart = Ewma::with_params(0.0, 1e200, 1e-300, 1e200, edition).unwrap();
+        let record = chart.analyze(&[1.0]).unwrap().pop().unwrap();
+        assert!(record.ucl.is_nan() && record.lcl.is_nan());
+        assert_eq!(record.side, Side::None);
+    }
 }
 
 #[test]
@@ -107,11 +122,13 @@ fn every_side_but_none_is_a_signal() {
     let signals: Vec<bool> = records.iter().map(|record| record.signal()).collect();
     assert_eq!(signals, [true, true, true, false, true, true]);
     assert_eq!(cusum.signal_points(&readings).unwrap(), [0, 1, 2, 4, 5]);
-    let ewma = Ewma::with_params(0.0, 1.0, 1.0, 3.0).unwrap();
-    let records = ewma.analyze(&readings).unwrap();
-    let signals: Vec<bool> = records.iter().map(|record| record.signal()).collect();
-    assert_eq!(signals, [true, true, true, false, true, false]);
-    assert_eq!(ewma.signal_points(&readings).unwrap(), [0, 1, 2, 4]);
+    for edition in EDITIONS {
+        let ewma = Ewma::with_params(0.0, 1.0, 1.0, 3.0, edition).unwrap();
+        let records = ewma.analyze(&readings).unwrap();
+        let signals: Vec<bool> = records.iter().map(|record| record.signal()).collect();
+        assert_eq!(signals, [true, true, true, false, true, false]);
+        assert_eq!(ewma.signal_points(&readings).unwrap(), [0, 1, 2, 4]);
+    }
 }
 
 #[test]

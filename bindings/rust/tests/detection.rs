@@ -142,6 +142,29 @@ fn an_ewma_record_says_whether_it_signals() {
     assert_eq!(told, due);
 }
 
+/// u-analytics has no editions: its limits widen at a gap, as the first edition's do.
+#[test]
+fn an_ewma_is_of_the_first_edition() {
+    let readings = [0.0, f64::NAN, 4.54];
+    let edition = u_analytics::Edition::First;
+    let first = u_analytics::Ewma::with_params(0.0, 1.0, 0.5, 4.0, edition).unwrap();
+    let ewma = Ewma::with_params(0.0, 1.0, 0.5, 4.0).unwrap();
+    let records = ewma.analyze(&readings);
+    for (record, due) in records.iter().zip(first.analyze(&readings).unwrap()) {
+        assert_eq!((record.ucl, record.lcl), (due.ucl, due.lcl));
+    }
+    assert_eq!(records.len(), 3);
+    assert!(records[0].ucl < records[1].ucl && records[1].ucl < records[2].ucl);
+    assert_eq!(ewma.signal_points(&readings), []);
+
+    let (usual, edition) = (Ewma::new(0.0, 1.0).unwrap(), u_analytics::Edition::First);
+    let due = u_analytics::Ewma::new(0.0, 1.0, edition).unwrap();
+    let due = due.analyze(&readings).unwrap();
+    let limits: Vec<f64> = usual.analyze(&readings).iter().map(|r| r.ucl).collect();
+    assert_eq!(limits, [due[0].ucl, due[1].ucl, due[2].ucl]);
+    assert!(limits[0] < limits[1] && limits[1] < limits[2]);
+}
+
 #[test]
 fn none_where_u_analytics_has_none() {
     let (cost, zero) = (CostFunction::L2, Penalty::Custom(0.0));

@@ -1,8 +1,10 @@
 //! Every refusal that the package gives, and what it says.
 
-use overbrindle::{piece_summary, CostFunction, Cusum, Ewma, Pelt, Penalty, Refusal, Sum};
+use overbrindle::{piece_summary, CostFunction, Cusum, Edition, Ewma, Pelt, Penalty, Refusal, Sum};
 use overbrindle::{MAX_CHANNELS, MAX_READINGS};
 use std::error::Error;
+
+const EDITIONS: [Edition; 2] = [Edition::First, Edition::Second];
 
 fn search() -> Pelt {
     Pelt::new(CostFunction::L2, Penalty::Custom(1.0)).expect("a search")
@@ -62,11 +64,14 @@ fn readings() {
     refused(search().detect_strict(&long), 6, text);
     refused(search().detect_multi(&[&long, &long]), 6, text);
     refused(piece_summary(&long, 0, 2), 6, text);
-    let (cusum, ewma) = (Cusum::new(0.0, 1.0).unwrap(), Ewma::new(0.0, 1.0).unwrap());
+    let cusum = Cusum::new(0.0, 1.0).unwrap();
     refused(cusum.analyze(&long), 6, text);
     refused(cusum.signal_points(&long), 6, text);
-    refused(ewma.analyze(&long), 6, text);
-    refused(ewma.signal_points(&long), 6, text);
+    for edition in EDITIONS {
+        let ewma = Ewma::new(0.0, 1.0, edition).unwrap();
+        refused(ewma.analyze(&long), 6, text);
+        refused(ewma.signal_points(&long), 6, text);
+    }
 }
 
 #[test]
@@ -95,19 +100,23 @@ fn a_level() {
 #[test]
 fn a_setting_of_a_chart() {
     let target = "refusal 15: the target is not finite";
-    refused(Cusum::new(f64::NAN, 1.0), 15, target);
-    refused(Ewma::new(f64::NEG_INFINITY, 1.0), 15, target);
     let sigma = "refusal 16: sigma is not finite or not above 0";
-    refused(Cusum::new(0.0, -0.0), 16, sigma);
-    refused(Ewma::new(0.0, f64::INFINITY), 16, sigma);
     let weight = "refusal 17: the weight, k or lambda, is out of range";
-    refused(Cusum::with_params(0.0, 1.0, -0.5, 5.0), 17, weight);
-    refused(Ewma::with_params(0.0, 1.0, -0.0, 3.0), 17, weight);
-    refused(Ewma::with_params(0.0, 1.0, 1.5, 3.0), 17, weight);
     let bound = "refusal 18: the bound, h or L, is not finite or not above 0";
+    refused(Cusum::new(f64::NAN, 1.0), 15, target);
+    refused(Cusum::new(0.0, -0.0), 16, sigma);
+    refused(Cusum::with_params(0.0, 1.0, -0.5, 5.0), 17, weight);
     refused(Cusum::with_params(0.0, 1.0, 0.5, -0.0), 18, bound);
-    refused(Ewma::with_params(0.0, 1.0, 0.2, -3.0), 18, bound);
     assert!(Cusum::with_params(-0.0, 1.0, -0.0, 5.0).is_ok());
+    for edition in EDITIONS {
+        let ewma = |lambda, l_factor| Ewma::with_params(0.0, 1.0, lambda, l_factor, edition);
+        refused(Ewma::new(f64::NEG_INFINITY, 1.0, edition), 15, target);
+        refused(Ewma::new(0.0, f64::INFINITY, edition), 16, sigma);
+        refused(ewma(-0.0, 3.0), 17, weight);
+        refused(ewma(1.5, 3.0), 17, weight);
+        refused(ewma(0.2, -3.0), 18, bound);
+        assert!(ewma(1.0, 3.0).is_ok());
+    }
 }
 
 #[test]
@@ -125,7 +134,10 @@ fn the_first_setting_that_is_wrong_is_named() {
     for (at, name) in names.into_iter().enumerate() {
         let [a, b, c, d] = [0, 1, 2, 3].map(|i| if i < at { usual[i] } else { nan });
         assert_eq!(Cusum::with_params(a, b, c, d).err(), Some(name));
-        assert_eq!(Ewma::with_params(a, b, c, d).err(), Some(name));
+        for edition in EDITIONS {
+            let made = Ewma::with_params(a, b, c, d, edition);
+            assert_eq!(made.err(), Some(name));
+        }
     }
 }
 
@@ -154,7 +166,7 @@ fn those_of_lent_room_speak_too() {
         ),
         (
             Refusal::Form,
-            "refusal 10: a number stands for no cost, penalty or sum",
+            "refusal 10: a number stands for no cost, penalty, sum or edition",
         ),
         (
             Refusal::Other(13),

@@ -1,5 +1,5 @@
--- What programs in other languages are told of a chart's settings: a number from 15 to 18 names the first that is out of range, and any other but 0, and but the 10 of a run length, says that none is. Assumes nothing.
-use mathlib.Core.Path.{_≡_, ap, _∙_}
+-- What programs in other languages are told of a chart's settings: a number from 15 to 18 names the first that is out of range, and any other but 0, and but the 10 of an edition or a run length, says that none is. Assumes nothing.
+use mathlib.Core.Path.{_≡_, refl, ap, _∙_}
 use Prim.Native.Nat.{ℕ, _<_}
 use mathlib.Core.Bool.{Bool, true, false, not, cond}
 use mathlib.Core.List.{List, [], _∷_, _++_}
@@ -13,6 +13,7 @@ use Rattle.refusals.specs.Tried.{tried}
 use Rattle.refusals.specs.Said.{answered, refusing, said}
 use Rattle.refusals.specs.declared.Refusal.{Refusal}
 use Rattle.refusals.specs.declared.Refusal.the-variants as Refusal
+use Rattle.refusals.specs.declared.Answer.{Answer}
 use Rattle.charts.specs.declared.InRange.{InRange}
 use Rattle.charts.specs.Settings.{settingTests, Named}
 use Rattle.charts.specs.Answers.{sizeTests, chartAnswer}
@@ -22,12 +23,14 @@ use Rattle.cusum.specs.Chart as Cusum
 use Rattle.cusum.specs.RunLength.{heard, runLength}
 use Rattle.cusum.specs.declared.Cusum.{Cusum}
 use Rattle.ewma.specs.Chart as Ewma
-use Rattle.ewma.specs.declared.Ewma.{Ewma}
 use Rattle.c_answers.specs.declared.Counted.{Counted}
 use Rattle.c_answers.specs.Told.{toldOf, countedAs, countedOf, askedSum, runLengthOf, toldLeft}
 use Rattle.c_answers.proofs.ReadBack.{number-told}
+use Rattle.c_charts.specs.declared.EwmaSettings.{EwmaSettings}
 use Rattle.c_charts.specs.CusumColumns as CusumColumns
+use Rattle.c_charts.specs.Editions.{isEdition, chartOf, askedTests, askedPoints}
 use Rattle.c_charts.specs.EwmaColumns as EwmaColumns
+use Rattle.c_charts.proofs.EditionLaws.{known-answer, other-answer}
 
 -- the refusal with this number, and what it says of the settings
 abbrev pub NamedBy : InRange → ℕ → Type 0
@@ -47,20 +50,27 @@ unfolding Cusum.testsOf
 cusum-arrays-name c xs upper lower upper′ lower′ side index side′ index′ number count h e =
     chart-names (Cusum.inRange c) (length xs) (CusumColumns.roomOf upper lower side index) (length xs) number count h (ap (λ (o : Counted × List Float × List Float × List ℕ × List ℕ). o .0) e)
 
-pub ewma-arrays-name : (c : Ewma) (xs ewma ucl lcl ewma′ ucl′ lcl′ : List Float) (side index side′ index′ : List ℕ) (number count : ℕ) → 0 < number
-    → _≡_ {A = Counted × List Float × List Float × List Float × List ℕ × List ℕ} (countedAs number count, ewma′, ucl′, lcl′, side′, index′) (EwmaColumns.ewmaArrays c xs ewma ucl lcl side index) → NamedBy (Ewma.inRange c) number
-unfolding Ewma.testsOf
-ewma-arrays-name c xs ewma ucl lcl ewma′ ucl′ lcl′ side index side′ index′ number count h e =
-    chart-names (Ewma.inRange c) (length xs) (EwmaColumns.roomOf ewma ucl lcl side index) (length xs) number count h (ap (λ (o : Counted × List Float × List Float × List Float × List ℕ × List ℕ). o .0) e)
+-- of an EWMA where the number is not 10, which comes before the settings
+asked-names : (asked : EwmaSettings) (n room count number k : ℕ) → 0 < number → (number ≡ 10 → ⊥) → countedAs number k ≡ countedOf (said (chartAnswer (askedTests asked) n room count)) → NamedBy (Ewma.inRange (chartOf asked)) number
+unfolding Ewma.testsOf toldOf
+asked-names asked n room count number k h other e = go (isEdition (asked .edition)) refl
+  where
+    go : (known : Bool) → isEdition (asked .edition) ≡ known → NamedBy (Ewma.inRange (chartOf asked)) number
+    go true t = chart-names (Ewma.inRange (chartOf asked)) n room count number k h (e ∙ ap (λ (r : Answer). countedOf (said r)) (known-answer asked t n room count))
+    go false t = absurd (other (ap (λ (told : Counted). told .number) (e ∙ ap (λ (r : Answer). countedOf (said r)) (other-answer asked t n room count))))
+
+pub ewma-arrays-name : (asked : EwmaSettings) (xs ewma ucl lcl ewma′ ucl′ lcl′ : List Float) (side index side′ index′ : List ℕ) (number count : ℕ) → 0 < number → (number ≡ 10 → ⊥)
+    → _≡_ {A = Counted × List Float × List Float × List Float × List ℕ × List ℕ} (countedAs number count, ewma′, ucl′, lcl′, side′, index′) (EwmaColumns.ewmaArrays asked xs ewma ucl lcl side index) → NamedBy (Ewma.inRange (chartOf asked)) number
+ewma-arrays-name asked xs ewma ucl lcl ewma′ ucl′ lcl′ side index side′ index′ number count h other e =
+    asked-names asked (length xs) (EwmaColumns.roomOf ewma ucl lcl side index) (length xs) number count h other (ap (λ (o : Counted × List Float × List Float × List Float × List ℕ × List ℕ). o .0) e)
 
 -- ---- of the indices that signal
 pub cusum-points-name : (c : Cusum) (xs : List Float) (entry exit : List ℕ) (number count : ℕ) → 0 < number → _≡_ {A = Counted × List ℕ} (countedAs number count, exit) (toldLeft (Cusum.signalled c xs entry)) → NamedBy (Cusum.inRange c) number
 unfolding Cusum.testsOf
 cusum-points-name c xs entry exit number count h e = chart-names (Cusum.inRange c) (length xs) (length entry) (length (Cusum.signalling c xs (length xs))) number count h (ap (λ (o : Counted × List ℕ). o .0) e)
 
-pub ewma-points-name : (c : Ewma) (xs : List Float) (entry exit : List ℕ) (number count : ℕ) → 0 < number → _≡_ {A = Counted × List ℕ} (countedAs number count, exit) (toldLeft (Ewma.signalled c xs entry)) → NamedBy (Ewma.inRange c) number
-unfolding Ewma.testsOf
-ewma-points-name c xs entry exit number count h e = chart-names (Ewma.inRange c) (length xs) (length entry) (length (Ewma.signalling c xs (length xs))) number count h (ap (λ (o : Counted × List ℕ). o .0) e)
+pub ewma-points-name : (asked : EwmaSettings) (xs : List Float) (entry exit : List ℕ) (number count : ℕ) → 0 < number → (number ≡ 10 → ⊥) → _≡_ {A = Counted × List ℕ} (countedAs number count, exit) (toldLeft (askedPoints asked xs entry)) → NamedBy (Ewma.inRange (chartOf asked)) number
+ewma-points-name asked xs entry exit number count h other e = asked-names asked (length xs) (length entry) (length (Ewma.signalling (chartOf asked) xs (length xs))) number count h other (ap (λ (o : Counted × List ℕ). o .0) e)
 
 -- ---- of the run length, where the number is not 10, which comes before the settings
 pub run-length-names : (c : Cusum) (v : Float) (asked number reading : ℕ) → 0 < number → (number ≡ 10 → ⊥) → countedAs number reading ≡ countedOf (runLengthOf c v asked) → NamedBy (Cusum.inRange c) number

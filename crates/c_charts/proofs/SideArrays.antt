@@ -20,19 +20,21 @@ use Rattle.charts.specs.declared.Side.{Side}
 use Rattle.charts.specs.declared.Side.the-variants as Sided
 use Rattle.charts.specs.declared.Sum.{Sum}
 use Rattle.charts.specs.declared.Sum.the-variants.{Upper, Lower}
+use Rattle.refusals.proofs.TriedLaws.{passed-rest}
 use Rattle.charts.proofs.Answers.{count-accepted}
 use Rattle.charts.proofs.Points.{field-in}
 use Rattle.cusum.specs.declared.Cusum.{Cusum}
 use Rattle.cusum.specs.Chart as Cusum
 use Rattle.cusum.proofs.Sides as CusumSides
-use Rattle.ewma.specs.declared.Ewma.{Ewma}
 use Rattle.ewma.specs.Chart as Ewma
 use Rattle.ewma.proofs.Sides as EwmaSides
 use Rattle.ewma.proofs.SettingLaws.{passed-accepted}
 use Rattle.c_answers.specs.declared.Counted.{Counted}
 use Rattle.c_answers.specs.Told.{countedAs, countedOf}
 use Rattle.c_answers.proofs.ReadBack.{count-told}
+use Rattle.c_charts.specs.declared.EwmaSettings.{EwmaSettings}
 use Rattle.c_charts.specs.Columns.{Facing}
+use Rattle.c_charts.specs.Editions.{chartOf, askedTests}
 use Rattle.c_charts.specs.CusumColumns as CusumColumns
 use Rattle.c_charts.specs.EwmaColumns as EwmaColumns
 
@@ -82,18 +84,18 @@ module _ (c : Cusum) (xs upper lower upper′ lower′ : List Float) (side index
   cusum-gap i h e = cusum-side i h ∙ ap sideNumber (CusumSides.record-gap c xs i e)
 
 -- ---- EWMA
-module _ (c : Ewma) (xs ewma ucl lcl ewma′ ucl′ lcl′ : List Float) (side index side′ index′ : List ℕ) (count : ℕ)
-    (a : _≡_ {A = Counted × List Float × List Float × List Float × List ℕ × List ℕ} (countedAs 0 count, ewma′, ucl′, lcl′, side′, index′) (EwmaColumns.ewmaArrays c xs ewma ucl lcl side index)) where
-  ewma-told : (passed (Ewma.testsOf c) ≡ true) × (countOf (admittedAs (Ewma.testsOf c) (length xs) (EwmaColumns.roomOf ewma ucl lcl side index)) ≡ length xs)
-  ewma-told = told-records (Ewma.testsOf c) (length xs) (EwmaColumns.roomOf ewma ucl lcl side index) count (ap (λ (o : Counted × List Float × List Float × List Float × List ℕ × List ℕ). o .0) a)
+module _ (asked : EwmaSettings) (xs ewma ucl lcl ewma′ ucl′ lcl′ : List Float) (side index side′ index′ : List ℕ) (count : ℕ)
+    (a : _≡_ {A = Counted × List Float × List Float × List Float × List ℕ × List ℕ} (countedAs 0 count, ewma′, ucl′, lcl′, side′, index′) (EwmaColumns.ewmaArrays asked xs ewma ucl lcl side index)) where
+  pub ewma-told : (passed (askedTests asked) ≡ true) × (countOf (admittedAs (askedTests asked) (length xs) (EwmaColumns.roomOf ewma ucl lcl side index)) ≡ length xs)
+  ewma-told = told-records (askedTests asked) (length xs) (EwmaColumns.roomOf ewma ucl lcl side index) count (ap (λ (o : Counted × List Float × List Float × List Float × List ℕ × List ℕ). o .0) a)
 
-  pub ewma-side : (i : ℕ) → i < length xs → getD side′ i 0 ≡ sideNumber (Ewma.recordAt c xs i .side)
+  pub ewma-side : (i : ℕ) → i < length xs → getD side′ i 0 ≡ sideNumber (Ewma.recordAt (chartOf asked) xs i .side)
   ewma-side i h =
-      ap (λ (l : List ℕ). getD l i 0) (ap (λ (o : Counted × List Float × List Float × List Float × List ℕ × List ℕ). o .4) a ∙ ap (λ (k : ℕ). column EwmaColumns.sideByte (Ewma.records c xs k) side) (ewma-told .1))
-      ∙ field-in Ewma.itself Ewma.fresh Ewma.nextRecord c xs EwmaColumns.sideByte side (length xs) i 0 h
+      ap (λ (l : List ℕ). getD l i 0) (ap (λ (o : Counted × List Float × List Float × List Float × List ℕ × List ℕ). o .4) a ∙ ap (λ (k : ℕ). column EwmaColumns.sideByte (Ewma.records (chartOf asked) xs k) side) (ewma-told .1))
+      ∙ field-in Ewma.recordOf Ewma.fresh Ewma.nextOf (chartOf asked) xs EwmaColumns.sideByte side (length xs) i 0 h
 
   pub ewma-gap : (i : ℕ) → i < length xs → finite (getD xs i nan) ≡ false → getD side′ i 0 ≡ 0
-  ewma-gap i h e = ewma-side i h ∙ ap sideNumber (EwmaSides.record-gap c xs i e)
+  ewma-gap i h e = ewma-side i h ∙ ap sideNumber (EwmaSides.record-gap (chartOf asked) xs i e)
 
   pub ewma-not-both : (i : ℕ) → i < length xs → getD side′ i 0 ≡ 3 → ⊥
-  ewma-not-both i h e = EwmaSides.record-not-both c xs i (passed-accepted c (ewma-told .0)) (both-number (Ewma.recordAt c xs i .side) (sym (ewma-side i h) ∙ e))
+  ewma-not-both i h e = EwmaSides.record-not-both (chartOf asked) xs i (passed-accepted (chartOf asked) (passed-rest _ _ (ewma-told .0))) (both-number (Ewma.recordAt (chartOf asked) xs i .side) (sym (ewma-side i h) ∙ e))

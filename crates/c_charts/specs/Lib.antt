@@ -1,3 +1,4 @@
 pub mod Columns
 pub mod CusumColumns
+pub mod Editions
 pub mod EwmaColumns

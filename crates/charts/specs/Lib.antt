@@ -6,3 +6,4 @@ pub mod Settings
 pub mod Answers
 pub mod Outcomes
 pub mod Notes
+pub mod Spans

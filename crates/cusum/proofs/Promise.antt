@@ -19,6 +19,7 @@ use Rattle.floats.proofs.Order.Laws.{le-reflexive, lt-then-le, neg-anti}
 use Rattle.floats.proofs.Order.Sums.{sub-le}
 use Rattle.floats.proofs.Order.Quotients.{div-le}
 use Rattle.charts.specs.Runs as Runs
+use Rattle.charts.specs.Spans.{countIn}
 use Rattle.charts.specs.declared.Observation.{Observation}
 use Rattle.refusals.specs.declared.Answer.{Answer}
 use Rattle.refusals.specs.declared.Answer.the-variants as Answer
@@ -130,7 +131,7 @@ module _ (c : Cusum) (asked : Sum) where
     -- the chart that is fed `v` once for each finite reading among the `d` readings of `xs` that begin at `p`
     keeps : (v : Float) → T (finite v) → (xs : List Float) (p d : ℕ) → ((j : ℕ) → j < d → T (finite (getD xs (p + j) nan)) → T (beyond asked v (getD xs (p + j) nan)))
         → T (le (sumOf asked (fed c v (finites xs p d))) (sumOf asked (prior xs (p + d))))
-    unfolding finites fed
+    unfolding countIn fed
     keeps v F xs p zero all = rw (add-zero p, fresh-is-zero) (prior-from-zero xs p)
     keeps v F xs p (suc d) all = rw (add-suc p d) (go (finite x) refl (keeps v F xs p d (λ j h. all j (omega arith))))
       where

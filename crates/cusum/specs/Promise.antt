@@ -1,13 +1,14 @@
 -- What promise 3 speaks of: the reading at which a level is first heard, and the finite readings of a span. Definitions only.
-use Prim.Native.Nat.{ℕ, zero, suc, _+_, _≤_, _<_}
+use Prim.Native.Nat.{ℕ, suc, _+_, _≤_, _<_}
 use mathlib.Core.Path.{_≡_}
-use mathlib.Core.Bool.{Bool, not, cond}
+use mathlib.Core.Bool.{Bool, not}
 use mathlib.Core.List.{List}
 use lib.Dec.{T}
 use lib.ListN.{getD}
 use lib.Ieee.{Float, nan}
 use Rattle.floats.specs.Numbers.{_<ᶠ_, _≤ᶠ_}
 use Rattle.floats.specs.Finite.{finite}
+use Rattle.charts.specs.Spans.{countIn}
 use Rattle.charts.specs.declared.Sum.{Sum}
 use Rattle.charts.specs.declared.Sum.the-variants.{Upper, Lower}
 use Rattle.cusum.specs.declared.Cusum.{Cusum}
@@ -25,9 +26,8 @@ beyond Upper v x = v ≤ᶠ x
 beyond Lower v x = x ≤ᶠ v
 
 -- how many of the `d` readings of `xs` that begin at `p` are finite
-unfoldable pub finites : List Float → ℕ → ℕ → ℕ
-finites xs p zero = 0
-finites xs p (suc d) = cond (finite (getD xs (p + d) nan)) (suc (finites xs p d)) (finites xs p d)
+abbrev pub finites : List Float → ℕ → ℕ → ℕ
+finites xs p d = countIn finite xs p d
 
 -- counted from `p`, the reading of `xs` at `p + d` is the `n`th finite one, and all the finite ones up to it are at the level `v` or beyond
 pub record Lasting (asked : Sum) (v : Float) (xs : List Float) (p d n : ℕ) : Type 0 where

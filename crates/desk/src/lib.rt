@@ -13,14 +13,14 @@ ghost use Rattle.elementary.specs.Logarithm.{ln};
 ghost use Rattle.noise.specs.Noise.{noise, Lent};
 ghost use Rattle.piece.specs.Piece.{summarisedAs};
 ghost use Rattle.cusum.specs.Chart as Cusums;
-ghost use Rattle.ewma.specs.Chart as Ewmas;
 ghost use Rattle.c_answers.specs.Told.{toldAs, toldLeft, countedAs, countedOf, pieceAs, pieceOf, runLengthOf};
 ghost use Rattle.search_answer.specs.Outcome.{areas};
 ghost use Rattle.c_search.specs.Asked.{toldSearch};
 ghost use Rattle.c_charts.specs.CusumColumns.{cusumArrays};
+ghost use Rattle.c_charts.specs.Editions.{askedPoints, settingsOf};
 ghost use Rattle.c_charts.specs.EwmaColumns.{ewmaArrays};
+use c_charts::EwmaSettings;
 use cusum::Cusum;
-use ewma::Ewma;
 
 // The square root of `x`, rounded to the nearest.
 #[no_mangle]
@@ -223,13 +223,14 @@ pub extern "C" fn overbrindle_cusum_run_length(
 }
 
 // The records of an EWMA chart over `data`, one array for each field, and in `count` how many there
-// are; 0 on a refusal.
+// are; 0 on a refusal. `edition` is 1 or 2, and any other number is refusal 10, tried first.
 #[no_mangle]
 pub extern "C" fn overbrindle_ewma_analyze(
     target: f64,
     sigma: f64,
     lambda: f64,
     l_factor: f64,
+    edition: u32,
     data: &[f64],
     ewma: &mut [f64],
     ucl: &mut [f64],
@@ -238,40 +239,44 @@ pub extern "C" fn overbrindle_ewma_analyze(
     index: &mut [usize],
     count: &mut usize,
 ) -> u32
-    ensures { λ r. ⌜ (countedAs r (now (count .exit)), now (ewma .exit), now (ucl .exit), now (lcl .exit), now (side .exit), now (index .exit)) ≡ ewmaArrays (Ewmas.withParams target sigma lambda «l_factor») (now («data» .entry)) (now (ewma .entry)) (now (ucl .entry)) (now (lcl .entry)) (now (side .entry)) (now (index .entry)) ⌝ }
+    ensures { λ r. ⌜ (countedAs r (now (count .exit)), now (ewma .exit), now (ucl .exit), now (lcl .exit), now (side .exit), now (index .exit)) ≡ ewmaArrays (settingsOf target sigma lambda «l_factor» edition) (now («data» .entry)) (now (ewma .entry)) (now (ucl .entry)) (now (lcl .entry)) (now (side .entry)) (now (index .entry)) ⌝ }
 {
-    let chart = Ewma {
+    let asked = EwmaSettings {
         target,
         sigma,
         lambda,
         l_factor,
+        edition,
     };
-    let told = c_charts::ewma_analyze(chart, data, ewma, ucl, lcl, side, index);
+    let told = c_charts::ewma_analyze(asked, data, ewma, ucl, lcl, side, index);
     *count = told.count;
     told.number
 }
 
 // The indices of the readings of `data` that signal on an EWMA chart, in the front of `points`, and in
-// `count` how many there are; 0 on a refusal.
+// `count` how many there are; 0 on a refusal. `edition` is 1 or 2, and any other number is refusal 10,
+// tried first.
 #[no_mangle]
 pub extern "C" fn overbrindle_ewma_signal_points(
     target: f64,
     sigma: f64,
     lambda: f64,
     l_factor: f64,
+    edition: u32,
     data: &[f64],
     points: &mut [usize],
     count: &mut usize,
 ) -> u32
-    ensures { λ r. ⌜ (countedAs r (now (count .exit)), now (points .exit)) ≡ toldLeft (Ewmas.signalled (Ewmas.withParams target sigma lambda «l_factor») (now («data» .entry)) (now (points .entry))) ⌝ }
+    ensures { λ r. ⌜ (countedAs r (now (count .exit)), now (points .exit)) ≡ toldLeft (askedPoints (settingsOf target sigma lambda «l_factor» edition) (now («data» .entry)) (now (points .entry))) ⌝ }
 {
-    let chart = Ewma {
+    let asked = EwmaSettings {
         target,
         sigma,
         lambda,
         l_factor,
+        edition,
     };
-    let told = c_answers::answered(chart.signal_points(data, points));
+    let told = c_charts::ewma_signal_points(asked, data, points);
     *count = told.count;
     told.number
 }

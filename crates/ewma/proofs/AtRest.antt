@@ -1,13 +1,13 @@
--- At the place that `start` finds and at all later ones the limits are the same: a run of states by it shows the chart's own records. Assumes nothing.
+-- At the place that `start` finds and at all later ones the limits are the same: a run of states by it, which also keeps the width while the place stays, shows the chart's own records. Assumes nothing.
 use mathlib.Core.Path.{_≡_, refl, sym, ap, subst, _∙_}
 use Prim.Native.Nat.{ℕ, zero, suc, _+_, _*_, _/_, _%_, _^_, _≤_, _<_}
 use native.Mathlib.Nat.{mul-le-mul, mul-pos, pow-suc}
 use native.Mathlib.Omega.{arith}
 use mathlib.Core.Bool.{Bool, true, false, not, cond, true≢false}
 use mathlib.Core.List.{List}
-use borrow.Author.Tests.{leb-true}
+use borrow.Author.Tests.{leb-true, eqb-true}
 use lib.IntN.{pos}
-use lib.Dec.{T, leb, ltb, lit<}
+use lib.Dec.{T, leb, ltb, eqb, lit<}
 use lib.ListN.{length, getD, set}
 use lib.Ieee.{Float, nan, inf, fin, binary64, up, down, round, mul, lt, le, ofInt}
 use lib.Ieee.Fits.{down-pos}
@@ -27,9 +27,11 @@ use Rattle.charts.proofs.Runs.{written}
 use Rattle.ewma.specs.declared.Ewma.{Ewma}
 use Rattle.ewma.specs.declared.EwmaResult.{EwmaResult}
 use Rattle.ewma.specs.declared.State.{State}
-use Rattle.ewma.specs.declared.Settled.{Settled}
-use Rattle.ewma.specs.Chart.{testsOf, halfWidth, stepOf, fresh, itself, nextRecord, analyzed}
-use Rattle.ewma.specs.Settled.{faint, widthAt, settledFrom, settledOf, widthFrom, stepBy, shownOf, startState, nextState, followingState}
+use Rattle.ewma.specs.declared.Limits.{Limits}
+use Rattle.ewma.specs.Chart.{testsOf, placeAfter, halfWidth, stepOf, Charted, recordOf, fresh, nextOf, analyzed}
+use Rattle.ewma.specs.Settled.{faint, widthAt, settledFrom, settledOf, widthFrom, limitsAt, limitsAfter, stepBy, shownOf, startState, nextState, followingState, stateOf}
+use Rattle.ewma.proofs.Editions.{place-next, place-within}
+use Rattle.ewma.proofs.Places.{at-most-is}
 use Rattle.ewma.proofs.Fading.{Within, one, rounded-within, unit-product, squared, faded-power, no-less-than-one, one-less-faint}
 
 -- ---- the place
@@ -99,6 +101,16 @@ never (suc k) p d h = rw (settledFrom, not-faint d h) (never k (2 * p) (d *ᶠ d
     doubled : (v : ℕ) → 2 * p * v ≡ p * (v * 2)
     doubled v = omega arith
 
+-- the place that is found is not before the first
+after-first : (k p : ℕ) (d : Float) → p ≤ settledFrom k p d
+unfolding settledFrom
+after-first zero p d = omega arith
+after-first (suc k) p d = go (d ≤ᶠ faint) (after-first k (2 * p) (d *ᶠ d))
+  where
+    go : (t : Bool) → 2 * p ≤ settledFrom k (2 * p) (d *ᶠ d) → p ≤ elim t [ true ↦ p | false ↦ settledFrom k (2 * p) (d *ᶠ d) ]
+    go true h = omega arith
+    go false h = omega (arith, h)
+
 -- `place` is at least one whose decay is faint, a number of squares after the decay of the place `first`, which is `decay`
 pub record Reached (place first : ℕ) (decay : Float) : Type 0 where
   pub squares : ℕ
@@ -141,10 +153,10 @@ even-power-faint (suc k) (suc n) place b e h l w r =
     let bit : suc n % 2 ≡ 0 = omega (arith, e) in
     rw (half, bit) (faded-power (r .squares) k place (b *ᶠ b) one (omega (arith, e, h, l)) (omega (arith, r .passed)) w (unfold le in tt) (r .faint-there))
 
--- the width that is kept once the limits have settled is the place's own
-pub width-settles : (c : Ewma) (place : Place) → 0 < place .0 → place .0 < 8192 → widthFrom c (settledOf c) place ≡ halfWidth c place
+-- the width that is kept once the limits have settled is the place's own, at any place that a chart reaches, 0 included
+pub width-settles : (c : Ewma) (place : Place) → place .0 < 8192 → widthFrom c (settledOf c) place ≡ halfWidth c place
 unfolding widthFrom settledOf halfWidth widthAt powi ofInt
-width-settles c place low high = by-place (leb (settledFrom 13 1 (kept *ᶠ kept)) (place .0)) refl
+width-settles c place high = by-place (leb (settledFrom 13 1 (kept *ᶠ kept)) (place .0)) refl
   where
     kept : Float
     kept = one -ᶠ c .lambda
@@ -156,6 +168,7 @@ width-settles c place low high = by-place (leb (settledFrom 13 1 (kept *ᶠ kept
     from-there : (t : Bool) → kept *ᶠ kept <ᶠ one ≡ t → settledFrom 13 1 (kept *ᶠ kept) ≤ place .0 → widthAt c one ≡ halfWidth c place
     from-there true e h =
         let w : Within one (kept *ᶠ kept) = square-within kept (lt→le (kept *ᶠ kept) one (rw e tt)) in
+        let low : 0 < place .0 = omega (arith, after-first 13 1 (kept *ᶠ kept), h) in
         rests (even-power-faint (2 * place .0) (2 * place .0) (place .0) kept refl (omega arith) low w (reached 13 1 (place .0) (kept *ᶠ kept) w h (omega (arith, high))))
     from-there false e h = absurd (too-far (rw (never 13 1 (kept *ᶠ kept) (not-below (kept *ᶠ kept) e)) at h))
       where
@@ -167,37 +180,66 @@ width-settles c place low high = by-place (leb (settledFrom 13 1 (kept *ᶠ kept
     by-place false e = refl
 
 -- ---- a run
--- a state that has where the limits of the chart settle moves on as the chart's records do
-module _ (c : Ewma) (s : State) (i : ℕ) (e : s .settled ≡ settledOf c) (h : i < 4096) where
-  next-settles : (x : Float) → nextState c s i x ≡ record { shown = nextRecord c (s .shown) i x; settled = settledOf c }
-  unfolding stepBy stepOf
-  next-settles x =
-      ap (λ (w : Settled). nextState c (record { shown = s .shown; settled = w }) i x) e
-      ∙ ap (λ (half : Float). record { shown = stepBy c half (s .shown) (record { 0 = i }) x; settled = settledOf c }) (width-settles c (record { 0 = suc i }) (omega arith) (omega (arith, h)))
+-- a chart that stands at a place comes to stand at the next with that one's limits
+limits-move : (c : Ewma) (place : Place) (i : ℕ) (x : Float) → place .0 ≤ i → i < 4096 → limitsAfter c (limitsAt c place) i x ≡ limitsAt c (placeAfter (c .edition) place (record { 0 = i }) x)
+unfolding limitsAfter
+limits-move c place i x low high = rw (at-most-is (place .0) i low) (ap (λ (half : Float). record { place = there; «half_width» = half; settled = settledOf c }) (by-place (eqb (there .0) (place .0)) refl))
+  where
+    there : Place
+    there = placeAfter (c .edition) place (record { 0 = i }) x
 
-  pub following-settles : (xs : List Float) → (followingState c xs i s .shown ≡ following nextRecord c xs i (s .shown)) × (followingState c xs i s .settled ≡ settledOf c)
+    by-place : (b : Bool) → eqb (there .0) (place .0) ≡ b → cond b (halfWidth c place) (widthFrom c (settledOf c) there) ≡ halfWidth c there
+    by-place true e = ap (λ (n : ℕ). halfWidth c (record { 0 = n })) (sym (eqb-true (there .0) (place .0) e))
+    by-place false e = width-settles c there (omega (arith, high, place-next (c .edition) place (record { 0 = i }) x low))
+
+-- a state that stands for a record and its place moves on as the chart does
+module _ (c : Ewma) (s : Charted) (i : ℕ) (low : s .1 .0 ≤ i) (high : i < 4096) where
+  next-settles : (x : Float) → nextState c (stateOf c s) i x ≡ stateOf c (nextOf c s i x)
+  unfolding stepBy stepOf
+  next-settles x = ap (λ (l : Limits). record { shown = stepBy c (l .«half_width») (s .0) (record { 0 = i }) x; limits = l }) (limits-move c (s .1) i x low high)
+
+  pub following-settles : (xs : List Float) → followingState c xs i (stateOf c s) ≡ stateOf c (following nextOf c xs i s)
   following-settles xs = go (ltb i (length xs))
     where
-      go : (b : Bool) → let x = getD xs i nan in (cond b (nextState c s i x) s .shown ≡ cond b (nextRecord c (s .shown) i x) (s .shown)) × (cond b (nextState c s i x) s .settled ≡ settledOf c)
-      go true = (ap (λ (t : State). t .shown) (next-settles (getD xs i nan)), e)
-      go false = (refl, e)
+      go : (b : Bool) → let x = getD xs i nan in cond b (nextState c (stateOf c s) i x) (stateOf c s) ≡ stateOf c (cond b (nextOf c s i x) s)
+      go true = next-settles (getD xs i nan)
+      go false = refl
 
 -- so that a run of states shows the chart's own records
 module _ (c : Ewma) (xs : List Float) where
-  pub state-settles : (n : ℕ) → n ≤ 4096 → stateAt shownOf startState nextState c xs n ≡ record { shown = stateAt itself fresh nextRecord c xs n; settled = settledOf c }
+  state-settles : (n : ℕ) → n ≤ 4096 → stateAt shownOf startState nextState c xs n ≡ stateOf c (stateAt recordOf fresh nextOf c xs n)
   state-settles zero h = refl
   state-settles (suc n) h =
-      let s : State = record { shown = stateAt itself fresh nextRecord c xs n; settled = settledOf c } in
-      ap (λ (t : State). nextState c t n (getD xs n nan)) (state-settles n (omega (arith, h))) ∙ next-settles c s n refl h (getD xs n nan)
+      ap (λ (t : State). nextState c t n (getD xs n nan)) (state-settles n (omega (arith, h)))
+      ∙ next-settles c (stateAt recordOf fresh nextOf c xs n) n (place-within c xs n) h (getD xs n nan)
 
-  written-settles : (n : ℕ) (entry : List EwmaResult) → n ≤ 4096 → written shownOf startState nextState c xs n entry ≡ written itself fresh nextRecord c xs n entry
+  written-settles : (n : ℕ) (entry : List EwmaResult) → n ≤ 4096 → written shownOf startState nextState c xs n entry ≡ written recordOf fresh nextOf c xs n entry
   written-settles zero entry h = refl
   written-settles (suc n) entry h =
       ap (λ (l : List EwmaResult). set l n (recordAt shownOf startState nextState c xs n)) (written-settles n entry (omega (arith, h)))
-      ∙ ap (λ (s : State). set (written itself fresh nextRecord c xs n entry) n (s .shown)) (state-settles (suc n) h)
+      ∙ ap (λ (s : State). set (written recordOf fresh nextOf c xs n entry) n (s .shown)) (state-settles (suc n) h)
 
 -- what `analyze` leaves is the chart's own
 pub settled-analyzed : (c : Ewma) (xs : List Float) (entry : List EwmaResult) → let r = admittedAs (testsOf c) (length xs) (length entry) in _≡_ {A = Answer × List EwmaResult} (r, written shownOf startState nextState c xs (countOf r) entry) (analyzed c xs entry)
 settled-analyzed c xs entry =
     let r = admittedAs (testsOf c) (length xs) (length entry) in
-    rw (written-settles c xs (countOf r) entry (few-records (testsOf c) (length xs) (length entry))) (analyzed-leaves itself fresh nextRecord testsOf c xs entry)
+    rw (written-settles c xs (countOf r) entry (few-records (testsOf c) (length xs) (length entry))) (analyzed-leaves recordOf fresh nextOf testsOf c xs entry)
+
+-- and says what they leave
+pub settled-decides : (c : Ewma) (xs : List Float) (entry : List EwmaResult) (r : Answer) (exit : List EwmaResult) → _≡_ {A = Answer × List EwmaResult} (r, exit) (analyzed c xs entry)
+    → let answer = admittedAs (testsOf c) (length xs) (length entry) in (r ≡ answer) × (exit ≡ written shownOf startState nextState c xs (countOf answer) entry)
+settled-decides c xs entry r exit e =
+    let both = e ∙ sym (settled-analyzed c xs entry) in
+    (ap (λ (o : Answer × List EwmaResult). o .0) both, ap (λ (o : Answer × List EwmaResult). o .1) both)
+
+-- ---- for a loop that carries a state: the record and the place that it has
+abbrev pub placed : State → Charted
+placed s = (s .shown, s .limits .place)
+
+-- one turn: from a state that stands for them, after `i` readings, to the next
+pub turn : (c : Ewma) (xs : List Float) (i : ℕ) (s s′ : State) → s ≡ stateOf c (placed s) → placed s ≡ stateAt recordOf fresh nextOf c xs i → i < 4096 → s′ ≡ followingState c xs i s
+    → (placed s′ ≡ following nextOf c xs i (placed s)) × (s′ ≡ stateOf c (placed s′))
+turn c xs i s s′ stands state high e =
+    let low : placed s .1 .0 ≤ i = subst (λ (t : Charted). t .1 .0 ≤ i) (sym state) (place-within c xs i) in
+    let moves : s′ ≡ stateOf c (following nextOf c xs i (placed s)) = e ∙ ap (followingState c xs i) stands ∙ following-settles c (placed s) i low high xs in
+    (ap placed moves, moves ∙ ap (stateOf c) (sym (ap placed moves)))

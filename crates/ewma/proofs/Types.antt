@@ -14,8 +14,8 @@ use Rattle.ewma.proofs.EwmaResult as R
 use Rattle.ewma.proofs.EwmaResult.Laws as R′
 use Rattle.ewma.proofs.State as S
 use Rattle.ewma.proofs.State.Laws as S′
-use Rattle.ewma.proofs.Settled as W
-use Rattle.ewma.proofs.Settled.Laws as W′
+use Rattle.ewma.proofs.Limits as W
+use Rattle.ewma.proofs.Limits.Laws as W′
 
 abbrev pub KC : Kind
 KC = kindOf C.the-row C′.mir (SL.val C.the-type C′.the-laws)

@@ -1,4 +1,4 @@
--- The EWMA chart: its settings, its limits, one reading's step, the records of a series, and the indices that signal. Rules 5.1, 5.2, 5.4 and 5.5. Definitions only.
+-- The EWMA chart: its settings, the place of a reading and its limits, one reading's step, the records of a series, and the indices that signal. Rules 5.1, 5.2, 5.4, 5.5 and 5.7. Definitions only.
 use Prim.Native.Nat.{ℕ, suc, _*_}
 use mathlib.Core.Bool.{Bool, _&&_, cond}
 use mathlib.Core.List.{List}
@@ -19,15 +19,17 @@ use Rattle.charts.specs.declared.Observation.{Observation}
 use Rattle.charts.specs.declared.Place.{Place}
 use Rattle.charts.specs.declared.Side.{Side}
 use Rattle.charts.specs.declared.Side.the-variants as Sided
+use Rattle.ewma.specs.declared.Edition.{Edition}
+use Rattle.ewma.specs.declared.Edition.the-variants.{First, Second}
 use Rattle.ewma.specs.declared.Ewma.{Ewma}
 use Rattle.ewma.specs.declared.EwmaResult.{EwmaResult}
 
 -- the two constructors; `new` has the defaults lambda 0.2 and L 3
-abbrev pub withParams : Float → Float → Float → Float → Ewma
-withParams target sigma lambda factor = record { target = target; sigma = sigma; lambda = lambda; «l_factor» = factor }
+abbrev pub withParams : Float → Float → Float → Float → Edition → Ewma
+withParams target sigma lambda factor edition = record { target = target; sigma = sigma; lambda = lambda; «l_factor» = factor; edition = edition }
 
-unfoldable pub newOf : Float → Float → Ewma
-newOf target sigma = withParams target sigma (ratio 1 5) (ofWhole 3)
+unfoldable pub newOf : Float → Float → Edition → Ewma
+newOf target sigma edition = withParams target sigma (ratio 1 5) (ofWhole 3) edition
 
 -- target finite; sigma finite and above 0; lambda in (0, 1]; L finite, above 0
 unfoldable pub accepted : Ewma → Bool
@@ -41,9 +43,10 @@ inRange c = record { target = finite (c .target); sigma = finite (c .sigma) && +
 unfoldable pub testsOf : Ewma → List (Bool × Refusal)
 testsOf c = settingTests (inRange c)
 
--- an index counts from 0, a place from 1
-abbrev pub placeOf : Observation → Place
-placeOf index = record { 0 = suc (index .0) }
+-- the place of the reading `x` at `index`, after the place `before`. First edition: the index and 1, gap or not; second: a finite reading has the next place, and a gap stays at the last
+abbrev pub placeAfter : Edition → Place → Observation → Float → Place
+placeAfter First before index x = record { 0 = suc (index .0) }
+placeAfter Second before index x = cond (finite x) (record { 0 = suc (before .0) }) before
 
 -- half the distance of the limits at `place`: L·sigma times the root of lambda / (2 - lambda) · (1 - (1 - lambda)^(2·place))
 unfoldable pub halfWidth : Ewma → Place → Float
@@ -62,36 +65,43 @@ outside c half ewma = sideOf (c .target +ᶠ half <ᶠ ewma) (ewma <ᶠ c .targe
 abbrev pub averaged : Ewma → Float → Float → Float
 averaged c before x = c .lambda *ᶠ x +ᶠ (ofWhole 1 -ᶠ c .lambda) *ᶠ before
 
--- the record of the reading `x` at `index`, after the record `before`; a gap carries the statistic forward, and its side is none
-unfoldable pub stepOf : Ewma → EwmaResult → Observation → Float → EwmaResult
-stepOf c before index x =
-    let half = halfWidth c (placeOf index) in
+-- the record of the reading `x` at `index` and `place`, after the record `before`; a gap carries the statistic forward, and its side is none
+unfoldable pub stepOf : Ewma → Place → EwmaResult → Observation → Float → EwmaResult
+stepOf c place before index x =
+    let half = halfWidth c place in
     let ewma = averaged c (before .ewma) x in
     cond (finite x) (within c index half (outside c half ewma) ewma) (within c index half Sided.None (before .ewma))
 
--- before the first reading the statistic is the target
-abbrev pub fresh : Ewma → EwmaResult
-fresh c = record { ewma = c .target; ucl = c .target; lcl = c .target; side = Sided.None; index = record { 0 = 0 } }
+-- what goes from reading to reading: the last record and its place
+abbrev pub Charted : Type 0
+Charted = EwmaResult × Place
 
--- the same as a run whose states are the records, each of which shows itself
-abbrev pub itself : EwmaResult → EwmaResult
-itself r = r
+abbrev pub recordOf : Charted → EwmaResult
+recordOf s = s .0
 
-abbrev pub nextRecord : Ewma → EwmaResult → ℕ → Float → EwmaResult
-nextRecord c before i x = stepOf c before (record { 0 = i }) x
+-- before the first reading the statistic is the target, and the place is 0
+abbrev pub blank : Ewma → EwmaResult
+blank c = record { ewma = c .target; ucl = c .target; lcl = c .target; side = Sided.None; index = record { 0 = 0 } }
+
+abbrev pub fresh : Ewma → Charted
+fresh c = (blank c, record { 0 = 0 })
+
+-- the reading has its place, and then its record
+abbrev pub nextOf : Ewma → Charted → ℕ → Float → Charted
+nextOf c s i x = let place = placeAfter (c .edition) (s .1) (record { 0 = i }) x in (stepOf c place (s .0) (record { 0 = i }) x, place)
 
 -- of a chart and a series: the record of the reading at an index, those of the first readings, and the indices among them that signal
 abbrev pub recordAt : Ewma → List Float → ℕ → EwmaResult
-recordAt = Runs.recordAt itself fresh nextRecord
+recordAt = Runs.recordAt recordOf fresh nextOf
 
 abbrev pub records : Ewma → List Float → ℕ → List EwmaResult
-records = Runs.records itself fresh nextRecord
+records = Runs.records recordOf fresh nextOf
 
 abbrev pub signalOf : EwmaResult → Bool
 signalOf r = signals (r .side)
 
 abbrev pub signalling : Ewma → List Float → ℕ → List ℕ
-signalling c xs n = Runs.points itself fresh nextRecord c xs signalOf n
+signalling c xs n = Runs.points recordOf fresh nextOf c xs signalOf n
 
 -- what `analyze` and `signal_points` answer and leave in the lent slice
 abbrev pub analyzed : Ewma → List Float → List EwmaResult → Answer × List EwmaResult

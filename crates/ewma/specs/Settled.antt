@@ -1,8 +1,8 @@
--- The limits of an EWMA chart by where they come to rest: the place, a width for every place, and a run by them. Definitions only.
+-- The limits of an EWMA chart by where they come to rest: the place, a width for every place, and a run that works out a width only where the place moves. Definitions only.
 use Prim.Native.Nat.{ℕ, zero, suc, _*_}
 use mathlib.Core.Bool.{false, true, cond}
 use mathlib.Core.List.{List}
-use lib.Dec.{leb}
+use lib.Dec.{leb, ltb, eqb}
 use lib.IntN.{negsuc}
 use lib.Ieee.{Float, fin}
 use Rattle.floats.specs.Numbers.{_-ᶠ_, _*ᶠ_, _/ᶠ_, _≤ᶠ_, ofWhole}
@@ -15,8 +15,9 @@ use Rattle.charts.specs.declared.Side.the-variants as Sided
 use Rattle.ewma.specs.declared.Ewma.{Ewma}
 use Rattle.ewma.specs.declared.EwmaResult.{EwmaResult}
 use Rattle.ewma.specs.declared.State.{State}
+use Rattle.ewma.specs.declared.Limits.{Limits}
 use Rattle.ewma.specs.declared.Settled.{Settled}
-use Rattle.ewma.specs.Chart.{halfWidth, placeOf, within, outside, averaged, fresh}
+use Rattle.ewma.specs.Chart.{Charted, placeAfter, halfWidth, within, outside, averaged, blank}
 
 -- half the distance of the limits where the statistic has the share `share` of its variance at rest; at a place that share is 1 less the decay
 unfoldable pub widthAt : Ewma → Float → Float
@@ -45,15 +46,36 @@ stepBy c half before index x =
     let ewma = averaged c (before .ewma) x in
     cond (finite x) (within c index half (outside c half ewma) ewma) (within c index half Sided.None (before .ewma))
 
+-- the place after the reading `x` at `i`, before which no more than `i` readings had one
+abbrev pub atMost : ℕ → ℕ → ℕ
+atMost place i = cond (ltb place i) place i
+
+abbrev pub placeFrom : Ewma → Place → ℕ → Float → Place
+placeFrom c last i x = placeAfter (c .edition) (record { 0 = atMost (last .0) i }) (record { 0 = i }) x
+
+-- where a chart stands once it is at `place`
+abbrev pub limitsAt : Ewma → Place → Limits
+limitsAt c place = record { place = place; «half_width» = halfWidth c place; settled = settledOf c }
+
+-- where it stands after the reading `x` at `i`: at the same place the width stays
+unfoldable pub limitsAfter : Ewma → Limits → ℕ → Float → Limits
+limitsAfter c l i x =
+    let place = placeFrom c (l .place) i x in
+    record { place = place; «half_width» = cond (eqb (place .0) (l .place .0)) (l .«half_width») (widthFrom c (l .settled) place); settled = l .settled }
+
 -- the states of a run with those widths, which carry them along, and the record that a state shows
 abbrev pub shownOf : State → EwmaResult
 shownOf s = s .shown
 
 abbrev pub startState : Ewma → State
-startState c = record { shown = fresh c; settled = settledOf c }
+startState c = record { shown = blank c; limits = limitsAt c (record { 0 = 0 }) }
 
 abbrev pub nextState : Ewma → State → ℕ → Float → State
-nextState c s i x = record { shown = stepBy c (widthFrom c (s .settled) (placeOf (record { 0 = i }))) (s .shown) (record { 0 = i }) x; settled = s .settled }
+nextState c s i x = let limits = limitsAfter c (s .limits) i x in record { shown = stepBy c (limits .«half_width») (s .shown) (record { 0 = i }) x; limits = limits }
 
 abbrev pub followingState : Ewma → List Float → ℕ → State → State
 followingState = Runs.following nextState
+
+-- the state that stands for a record and its place
+abbrev pub stateOf : Ewma → Charted → State
+stateOf c s = record { shown = s .0; limits = limitsAt c (s .1) }

@@ -1,27 +1,38 @@
 // The exponentially weighted moving average chart of `ewma.rs`: a statistic that moves towards each
 // reading by the weight lambda, with exact limits that widen with the place on the chart; a reading
-// signals where the statistic is strictly outside them, and its side says on which (rule 5.4).
+// signals where the statistic is strictly outside them, and its side says on which (rule 5.4). Which
+// place a reading has is said by the edition of the rule, which is one of the settings (rule 5.7).
 //
 // Every call ends with an answer or a refusal, and asks nothing of its caller: settings are checked
-// when they are used. `specs/Chart` has the recurrences that the records equal, and `proofs/Sides` what
-// is known of their sides: that of an accepted chart is never both.
+// when they are used. `specs/Chart` has the recurrences that the records equal, `proofs/Editions` what
+// holds of both editions and of each alone, and `proofs/Sides` what is known of the records' sides: that
+// of an accepted chart is never both.
 mod resting;
 mod step;
 
 ghost use mathlib.Core.Path.{_≡_};
 ghost use Rattle.ewma.specs.Chart.{newOf, withParams, analyzed, signalled};
 use charts::Observation;
+use charts::Place;
 use charts::Side;
 use refusals::Answer;
 pub use step::following;
 pub use step::judge;
 pub use step::start;
 
+// Which place on the chart a reading has: in the first edition, the Rust's, its index and 1, so that a
+// gap uses up a place; in the second the number of finite readings up to and with it.
+pub enum Edition {
+    First,
+    Second,
+}
+
 pub struct Ewma {
     pub target: f64,
     pub sigma: f64,
     pub lambda: f64,
     pub l_factor: f64,
+    pub edition: Edition,
 }
 
 // The record of the observation `index`: the statistic `ewma` after it, the limits `ucl` and `lcl` at
@@ -40,33 +51,50 @@ pub struct Settled {
     pub half_width: f64,
 }
 
-// What goes from reading to reading: the last record, and where the limits settle.
-pub struct State {
-    pub shown: EwmaResult,
+// Where a chart stands: at the place `place`, the last reading's, its limits lie `half_width` from the
+// target.
+pub struct Limits {
+    pub place: Place,
+    pub half_width: f64,
     pub settled: Settled,
 }
 
+// What goes from reading to reading: the last record, and where the chart stands.
+pub struct State {
+    pub shown: EwmaResult,
+    pub limits: Limits,
+}
+
 impl Ewma {
-    // A chart about `target` in units of `sigma`, with the weight 0.2 and limits at 3 sigma.
-    pub fn new(target: f64, sigma: f64) -> Ewma
-        ensures { λ r. ⌜ r ≡ newOf target sigma ⌝ }
+    // A chart about `target` in units of `sigma` by the rule of `edition`, with the weight 0.2 and limits
+    // at 3 sigma.
+    pub fn new(target: f64, sigma: f64, edition: Edition) -> Ewma
+        ensures { λ r. ⌜ r ≡ newOf target sigma edition ⌝ }
     {
         Ewma {
             target,
             sigma,
             lambda: 0.2,
             l_factor: 3.0,
+            edition,
         }
     }
 
-    pub fn with_params(target: f64, sigma: f64, lambda: f64, l_factor: f64) -> Ewma
-        ensures { λ r. ⌜ r ≡ withParams target sigma lambda «l_factor» ⌝ }
+    pub fn with_params(
+        target: f64,
+        sigma: f64,
+        lambda: f64,
+        l_factor: f64,
+        edition: Edition,
+    ) -> Ewma
+        ensures { λ r. ⌜ r ≡ withParams target sigma lambda «l_factor» edition ⌝ }
     {
         Ewma {
             target,
             sigma,
             lambda,
             l_factor,
+            edition,
         }
     }
 

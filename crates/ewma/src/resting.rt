@@ -1,10 +1,12 @@
-// The limits: how far they lie from the target, and where they come to rest. The decay of a place, (1 -
-// lambda)^(2 * place), is soon so small that 1 less it is 1, and at all later places the limits are the
-// same to the bit. `proofs/AtRest` has the law.
+// The limits: the place of a reading, how far they lie from the target there, and where they come to
+// rest. The decay of a place, (1 - lambda)^(2 * place), is soon so small that 1 less it is 1, and at all
+// later places the limits are the same to the bit. `proofs/AtRest` has the law.
 ghost use mathlib.Core.Path.{_≡_};
-ghost use Prim.Native.Nat.{_≤_, _^_};
-ghost use Rattle.ewma.specs.Settled.{widthAt, settledFrom, widthFrom};
+ghost use Prim.Native.Nat.{_≤_, _<_, _^_};
+ghost use Rattle.ewma.specs.Settled.{widthAt, settledFrom, widthFrom, atMost, placeFrom, limitsAt, limitsAfter};
+use crate::Edition;
 use crate::Ewma;
+use crate::Limits;
 use crate::Settled;
 use charts::Place;
 
@@ -49,4 +51,68 @@ pub(crate) fn width_from(chart: Ewma, settled: Settled, place: Place) -> f64
     }
     let decay = elementary::powi(1.0 - chart.lambda, (2 * place.0) as u64);
     width_at(chart, 1.0 - decay)
+}
+
+// Where `chart` stands before the first reading: at place 0, whose decay is 1. Cost: at most 13 squares,
+// for where the limits settle.
+pub(crate) fn limits_at_first(chart: Ewma) -> Limits
+    ensures { λ r. ⌜ r ≡ limitsAt chart (record { 0 = 0 }) ⌝ }
+{
+    let kept = 1.0 - chart.lambda;
+    let settled = Settled {
+        from: settled_from(kept * kept),
+        half_width: width_at(chart, 1.0),
+    };
+    Limits {
+        place: Place(0),
+        half_width: width_at(chart, 0.0),
+        settled,
+    }
+}
+
+// `place`, or `index` where that is less: no more than `index` readings had a place before the one there.
+fn at_most(place: usize, index: usize) -> usize
+    ensures { λ r. ⌜ r ≡ atMost place index ⌝ }
+{
+    if place < index { place } else { index }
+}
+
+// The place of the reading `x` at `index` by the edition of `chart`, after the place `last`.
+fn place_from(chart: Ewma, last: Place, index: usize, x: f64) -> Place
+    requires { ⌜ index < 2 ^ 61 ⌝ }
+    ensures { λ r. ⌜ r ≡ placeFrom chart last index x ⌝ }
+{
+    let edition = chart.edition;
+    let before = at_most(last.0, index);
+    match edition {
+        Edition::First => Place(index + 1),
+        Edition::Second => {
+            if floats::finite(x) {
+                Place(before + 1)
+            } else {
+                Place(before)
+            }
+        }
+    }
+}
+
+// Where `chart` stands after the reading `x` at `index`, from where it stood before, `limits`. Where the
+// place stays, as at a gap of the second edition, the width does.
+pub(crate) fn limits_after(chart: Ewma, limits: Limits, index: usize, x: f64) -> Limits
+    requires { ⌜ index < 2 ^ 61 ⌝ }
+    ensures { λ r. ⌜ r ≡ limitsAfter chart limits index x ⌝ }
+{
+    let last = limits.place;
+    let settled = limits.settled;
+    let place = place_from(chart, last, index, x);
+    let half_width = if place.0 == last.0 {
+        limits.half_width
+    } else {
+        width_from(chart, settled, place)
+    };
+    Limits {
+        place,
+        half_width,
+        settled,
+    }
 }

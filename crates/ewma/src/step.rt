@@ -6,14 +6,11 @@ ghost use Rattle.ewma.specs.Chart.{testsOf};
 ghost use Rattle.ewma.specs.Settled.{stepBy, startState, followingState};
 use crate::Ewma;
 use crate::EwmaResult;
-use crate::Settled;
 use crate::State;
-use crate::resting::settled_from;
-use crate::resting::width_at;
-use crate::resting::width_from;
+use crate::resting::limits_after;
+use crate::resting::limits_at_first;
 use charts::InRange;
 use charts::Observation;
-use charts::Place;
 use charts::Settings;
 use charts::Side;
 use refusals::Answer;
@@ -87,13 +84,8 @@ pub fn start(chart: Ewma) -> State
         side: Side::None,
         index: Observation(0),
     };
-    let half_width = width_at(chart, 1.0);
-    let kept = 1.0 - chart.lambda;
-    let settled = Settled {
-        from: settled_from(kept * kept),
-        half_width,
-    };
-    State { shown, settled }
+    let limits = limits_at_first(chart);
+    State { shown, limits }
 }
 
 // The state after the reading `data[i]`, from the `state` before it; the same state where there is no
@@ -102,13 +94,13 @@ pub fn following(chart: Ewma, data: &[f64], i: usize, state: State) -> State
     ensures { λ r. ⌜ r ≡ followingState chart (now («data» .entry)) i state ⌝ }
 {
     if i < data.len() {
+        let x = data[i];
         let before = state.shown;
-        let settled = state.settled;
-        let half_width = width_from(chart, settled, Place(i + 1));
-        let after = step_by(chart, half_width, before, Observation(i), data[i]);
+        let limits = limits_after(chart, state.limits, i, x);
+        let after = step_by(chart, limits.half_width, before, Observation(i), x);
         return State {
             shown: after,
-            settled,
+            limits,
         };
     }
     state

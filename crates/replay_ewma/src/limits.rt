@@ -5,6 +5,7 @@ use crate::lend::lend_two;
 use crate::records::match_unused;
 use crate::records::replay_answers;
 use crate::records::unused;
+use ewma::Edition;
 use ewma::Ewma;
 use replay_common::LIMIT;
 use replay_common::Progress;
@@ -37,8 +38,8 @@ fn answered_two(progress: Progress, chart: Ewma, data: &[f64], signals: usize) -
 
 // Compares the answers of all calls at a limit.
 pub(crate) fn limits(mut progress: Progress) -> Progress {
-    let chart = Ewma::new(0.0, 1.0);
-    let refused = Ewma::with_params(0.0, 1.0, 0.2, 0.0);
+    let chart = Ewma::new(0.0, 1.0, Edition::First);
+    let refused = Ewma::with_params(0.0, 1.0, 0.2, 0.0, Edition::Second);
     let long = [3.0; 4097];
     progress = replay_answers(progress.begun(), chart, &long, 6, LIMIT);
     progress = replay_answers(progress.begun(), refused, &long, 18, LIMIT);

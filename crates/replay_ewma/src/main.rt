@@ -10,13 +10,15 @@
 //     5, 6      the answers of signal_points and analyze: how many results, or a refusal 32 bits higher
 //     7, 8      an index, and a lent index behind the last
 //
-// The answers are the unmodified Rust's. `tests/vectors/run` makes standard input; the first lines of
-// `tests/vectors/charts.rs` say what a case is made of. At the end come calls that the Rust can't show:
+// The answers of the first edition are the unmodified Rust's, those of the second a copy's that counts
+// the places. `tests/vectors/run` makes standard input; the first lines of `tests/vectors/charts.rs` say
+// what a case is made of. At the end come calls that the Rust can't show:
 // see `limits`.
 mod lend;
 mod limits;
 mod records;
 
+use ewma::Edition;
 use ewma::Ewma;
 use limits::limits;
 use records::replay_answers;
@@ -36,14 +38,23 @@ fn replay_series(progress: Progress, chart: Ewma) -> Progress {
     progress.stopped()
 }
 
+// The edition of a case with the letter `letter`: a capital is the second.
+fn edition_of(letter: u8) -> Edition {
+    match letter {
+        b'N' | b'P' => Edition::Second,
+        _ => Edition::First,
+    }
+}
+
 // The chart whose settings `bytes` has.
 fn chart_of(bytes: &[u8; 33]) -> Ewma {
     let target = float(bytes, 1);
     let sigma = float(bytes, 9);
-    if bytes[0] == b'n' {
-        return Ewma::new(target, sigma);
+    let edition = edition_of(bytes[0]);
+    match bytes[0] {
+        b'n' | b'N' => Ewma::new(target, sigma, edition),
+        _ => Ewma::with_params(target, sigma, float(bytes, 17), float(bytes, 25), edition),
     }
-    Ewma::with_params(target, sigma, float(bytes, 17), float(bytes, 25))
 }
 
 // Replays the case whose first 33 bytes are `block`.
@@ -58,7 +69,7 @@ fn replay_case(progress: Progress, block: Block) -> Progress {
     let bytes = block.bytes;
     let chart = chart_of(&bytes);
     match bytes[0] {
-        b'n' | b'p' => replay_series(begun, chart),
+        b'n' | b'p' | b'N' | b'P' => replay_series(begun, chart),
         _ => begun.stopped(),
     }
 }

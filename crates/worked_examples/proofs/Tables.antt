@@ -42,7 +42,7 @@ use Rattle.ewma.specs.Chart as Ewma
 use Rattle.worked_examples.specs.Calls.{Call, Outcome, resolvedBy, outcome}
 use Rattle.worked_examples.specs.Rows.{Row, Hold, sumsFrom, averagesFrom, ballsFrom}
 use Rattle.worked_examples.specs.Marked.{markedRows}
-use Rattle.worked_examples.specs.Further.{functionalRows, slackRows, roundingRows, furtherRoundingRows, inequalityRows, noiseRows, penaltyRows, refusalRows, chartRows, settingRows, sideRows, ballRows, furtherRows}
+use Rattle.worked_examples.specs.Further.{functionalRows, slackRows, roundingRows, furtherRoundingRows, inequalityRows, noiseRows, penaltyRows, refusalRows, chartRows, settingRows, sideRows, editionRows, ballRows, furtherRows}
 
 -- an outcome, opened: to unfold it is to unfold all that the line names
 opened : Call → Outcome
@@ -61,8 +61,8 @@ opened call = outcome call
 -- ---- the tables
 
 -- how many rows there are: of the marked examples P8, P9 and P13 have two each
-pub sizes : (length markedRows ≡ 16) × (length furtherRows ≡ 118)
-unfolding markedRows furtherRows functionalRows inequalityRows noiseRows refusalRows chartRows settingRows sideRows ballRows slackRows penaltyRows roundingRows furtherRoundingRows
+pub sizes : (length markedRows ≡ 16) × (length furtherRows ≡ 131)
+unfolding markedRows furtherRows functionalRows inequalityRows noiseRows refusalRows chartRows settingRows sideRows editionRows ballRows slackRows penaltyRows roundingRows furtherRoundingRows
 sizes = (refl, refl)
 
 -- P1 to P13
@@ -103,6 +103,10 @@ side-rows : Hold sideRows
 unfolding opened sideRows
 side-rows = refl
 
+edition-rows : Hold editionRows
+unfolding opened editionRows
+edition-rows = refl
+
 ball-rows : Hold ballRows
 unfolding opened ballRows
 ball-rows = refl
@@ -127,14 +131,15 @@ further-rounding-rows = refl
 pub further : Hold furtherRows
 unfolding furtherRows
 further =
-    both functionalRows (inequalityRows ++ (noiseRows ++ (refusalRows ++ (chartRows ++ (settingRows ++ (sideRows ++ (ballRows ++ (slackRows ++ (penaltyRows ++ (roundingRows ++ furtherRoundingRows)))))))))) functional-rows
-    (both inequalityRows (noiseRows ++ (refusalRows ++ (chartRows ++ (settingRows ++ (sideRows ++ (ballRows ++ (slackRows ++ (penaltyRows ++ (roundingRows ++ furtherRoundingRows))))))))) inequality-rows
-    (both noiseRows (refusalRows ++ (chartRows ++ (settingRows ++ (sideRows ++ (ballRows ++ (slackRows ++ (penaltyRows ++ (roundingRows ++ furtherRoundingRows)))))))) noise-rows
-    (both refusalRows (chartRows ++ (settingRows ++ (sideRows ++ (ballRows ++ (slackRows ++ (penaltyRows ++ (roundingRows ++ furtherRoundingRows))))))) refusal-rows
-    (both chartRows (settingRows ++ (sideRows ++ (ballRows ++ (slackRows ++ (penaltyRows ++ (roundingRows ++ furtherRoundingRows)))))) chart-rows
-    (both settingRows (sideRows ++ (ballRows ++ (slackRows ++ (penaltyRows ++ (roundingRows ++ furtherRoundingRows))))) setting-rows
-    (both sideRows (ballRows ++ (slackRows ++ (penaltyRows ++ (roundingRows ++ furtherRoundingRows)))) side-rows
+    both functionalRows (inequalityRows ++ (noiseRows ++ (refusalRows ++ (chartRows ++ (settingRows ++ (sideRows ++ (editionRows ++ (ballRows ++ (slackRows ++ (penaltyRows ++ (roundingRows ++ furtherRoundingRows))))))))))) functional-rows
+    (both inequalityRows (noiseRows ++ (refusalRows ++ (chartRows ++ (settingRows ++ (sideRows ++ (editionRows ++ (ballRows ++ (slackRows ++ (penaltyRows ++ (roundingRows ++ furtherRoundingRows)))))))))) inequality-rows
+    (both noiseRows (refusalRows ++ (chartRows ++ (settingRows ++ (sideRows ++ (editionRows ++ (ballRows ++ (slackRows ++ (penaltyRows ++ (roundingRows ++ furtherRoundingRows))))))))) noise-rows
+    (both refusalRows (chartRows ++ (settingRows ++ (sideRows ++ (editionRows ++ (ballRows ++ (slackRows ++ (penaltyRows ++ (roundingRows ++ furtherRoundingRows)))))))) refusal-rows
+    (both chartRows (settingRows ++ (sideRows ++ (editionRows ++ (ballRows ++ (slackRows ++ (penaltyRows ++ (roundingRows ++ furtherRoundingRows))))))) chart-rows
+    (both settingRows (sideRows ++ (editionRows ++ (ballRows ++ (slackRows ++ (penaltyRows ++ (roundingRows ++ furtherRoundingRows)))))) setting-rows
+    (both sideRows (editionRows ++ (ballRows ++ (slackRows ++ (penaltyRows ++ (roundingRows ++ furtherRoundingRows))))) side-rows
+    (both editionRows (ballRows ++ (slackRows ++ (penaltyRows ++ (roundingRows ++ furtherRoundingRows)))) edition-rows
     (both ballRows (slackRows ++ (penaltyRows ++ (roundingRows ++ furtherRoundingRows))) ball-rows
     (both slackRows (penaltyRows ++ (roundingRows ++ furtherRoundingRows)) slack-rows
     (both penaltyRows (roundingRows ++ furtherRoundingRows) penalty-rows
-    (both roundingRows furtherRoundingRows rounding-rows further-rounding-rows))))))))))
+    (both roundingRows furtherRoundingRows rounding-rows further-rounding-rows)))))))))))

@@ -1,4 +1,4 @@
--- Rows of our own, Q1 to Q118: each catches a wrong program that the worked examples let pass. Definitions only.
+-- Rows of our own, Q1 to Q131: each catches a wrong program that the worked examples let pass. Definitions only.
 use Prim.Native.Nat.{_-_, _*_, _^_}
 use mathlib.Core.Bool.{true, false}
 use mathlib.Core.List.{List, [], _∷_, _++_}
@@ -15,6 +15,8 @@ use Rattle.cusum.specs.Chart as Cusum
 use Rattle.cusum.specs.declared.Cusum.{Cusum}
 use Rattle.ewma.specs.Chart as Ewma
 use Rattle.ewma.specs.declared.Ewma.{Ewma}
+use Rattle.ewma.specs.declared.Edition.{Edition}
+use Rattle.ewma.specs.declared.Edition.the-variants.{First, Second}
 use Rattle.worked_examples.specs.Rows.{Row, wholes, tenBillionths, ofPattern, custom, halves, sevens, within, among, plainly, strictly, finds, runsOut, refuses, resolves, gapAt, sumsAre, averagesAre, sumsSignal, averagesSignal, sumsRefuse, averagesRefuse, hears, refusesToHear, ball, ballsFrom, keeps}
 use Rattle.worked_examples.specs.Marked.{step, gap, sums, averages}
 
@@ -31,7 +33,15 @@ abbrev noSums : Cusum
 noSums = Cusum.withParams nan +0 (neg (ofWhole 1)) +0
 
 abbrev noAverages : Ewma
-noAverages = Ewma.withParams nan +0 +0 +0
+noAverages = Ewma.withParams nan +0 +0 +0 First
+
+-- lambda 0.5 and L 4: the limits lie 0, 2, 2.236 and 2.291 from the target 0 at the places 0 to 3
+abbrev halving : Edition → Ewma
+halving edition = Ewma.withParams +0 (ofWhole 1) (ratio 1 2) (ofWhole 4) edition
+
+-- lambda 1, and an L·sigma that is infinite
+abbrev unbounded : Ewma
+unbounded = Ewma.withParams +0 (ratio (10 ^ 200) 1) (ofWhole 1) (ratio (10 ^ 200) 1) Second
 
 -- more readings than are taken
 abbrev tooMany : List Float
@@ -232,13 +242,13 @@ chartRows =
     -- Q55 a gap is no signal of an EWMA
     ∷ averagesAre averages (ofWhole 4 ∷ nan ∷ []) ((ofWhole 4, neg (ofWhole 3), ofWhole 3, Above) ∷ (ofWhole 4, neg (ofWhole 3), ofWhole 3, None) ∷ [])
     -- Q56 limits by the place, from 1: with lambda 0.5 and L 4 the first are -2 and 2
-    ∷ averagesAre (Ewma.withParams +0 (ofWhole 1) (ratio 1 2) (ofWhole 4)) (ofWhole 1 ∷ []) ((ratio 1 2, neg (ofWhole 2), ofWhole 2, None) ∷ [])
+    ∷ averagesAre (Ewma.withParams +0 (ofWhole 1) (ratio 1 2) (ofWhole 4) First) (ofWhole 1 ∷ []) ((ratio 1 2, neg (ofWhole 2), ofWhole 2, None) ∷ [])
     -- Q57 the second are beyond 2.125
-    ∷ averagesSignal (Ewma.withParams +0 (ofWhole 1) (ratio 1 2) (ofWhole 4)) (ofWhole 0 ∷ ratio 17 4 ∷ []) 0 (7 ∷ 7 ∷ [])
+    ∷ averagesSignal (Ewma.withParams +0 (ofWhole 1) (ratio 1 2) (ofWhole 4) First) (ofWhole 0 ∷ ratio 17 4 ∷ []) 0 (7 ∷ 7 ∷ [])
     -- Q58 and below 2.25
-    ∷ averagesSignal (Ewma.withParams +0 (ofWhole 1) (ratio 1 2) (ofWhole 4)) (ofWhole 0 ∷ ratio 9 2 ∷ []) 1 (1 ∷ 7 ∷ [])
+    ∷ averagesSignal (Ewma.withParams +0 (ofWhole 1) (ratio 1 2) (ofWhole 4) First) (ofWhole 0 ∷ ratio 9 2 ∷ []) 1 (1 ∷ 7 ∷ [])
     -- Q59 lambda 0, and no room
-    ∷ averagesRefuse (Ewma.withParams +0 (ofWhole 1) +0 (ofWhole 3)) (wholes (3 ∷ [])) 0 (plain 17)
+    ∷ averagesRefuse (Ewma.withParams +0 (ofWhole 1) +0 (ofWhole 3) First) (wholes (3 ∷ [])) 0 (plain 17)
     ∷ []
 
 -- ---- settings of charts that are out of range: the first of them is named
@@ -267,15 +277,15 @@ settingRows =
     -- Q98 15 before 16 of an EWMA, all four, with too many readings and no room
     ∷ averagesRefuse noAverages tooMany 0 (plain 15)
     -- Q99 16 before 17 of an EWMA
-    ∷ averagesRefuse (Ewma.withParams +0 (neg +0) (ofWhole 2) (ofWhole 3)) [] 0 (plain 16)
+    ∷ averagesRefuse (Ewma.withParams +0 (neg +0) (ofWhole 2) (ofWhole 3) First) [] 0 (plain 16)
     -- Q100 17 before 18 of an EWMA
-    ∷ averagesRefuse (Ewma.withParams +0 (ofWhole 1) (ofWhole 2) +0) (wholes (3 ∷ [])) 1 (plain 17)
+    ∷ averagesRefuse (Ewma.withParams +0 (ofWhole 1) (ofWhole 2) +0 First) (wholes (3 ∷ [])) 1 (plain 17)
     -- Q101 18 before 6 of an EWMA
-    ∷ averagesRefuse (Ewma.withParams +0 (ofWhole 1) (ofWhole 1) +∞) tooMany 0 (plain 18)
+    ∷ averagesRefuse (Ewma.withParams +0 (ofWhole 1) (ofWhole 1) +∞ First) tooMany 0 (plain 18)
     -- Q102 a lambda of -0
-    ∷ averagesRefuse (Ewma.withParams +0 (ofWhole 1) (neg +0) (ofWhole 3)) (wholes (3 ∷ [])) 1 (plain 17)
+    ∷ averagesRefuse (Ewma.withParams +0 (ofWhole 1) (neg +0) (ofWhole 3) First) (wholes (3 ∷ [])) 1 (plain 17)
     -- Q103 an L of -0
-    ∷ averagesRefuse (Ewma.withParams +0 (ofWhole 1) (ofWhole 1) (neg +0)) (wholes (3 ∷ [])) 1 (plain 18)
+    ∷ averagesRefuse (Ewma.withParams +0 (ofWhole 1) (ofWhole 1) (neg +0) First) (wholes (3 ∷ [])) 1 (plain 18)
     ∷ []
 
 -- ---- the sides of records
@@ -302,7 +312,7 @@ sideRows =
     -- Q113 and at the lower one
     ∷ averagesAre averages (neg (ofWhole 3) ∷ []) ((neg (ofWhole 3), neg (ofWhole 3), ofWhole 3, None) ∷ [])
     -- Q114 an infinite L·sigma times a zero width: limits that are no numbers, and no side
-    ∷ averagesAre (Ewma.withParams +0 (ratio (10 ^ 200) 1) (ratio 1 (2 ^ 60)) (ratio (10 ^ 200) 1)) (ofWhole 1 ∷ []) ((ratio 1 (2 ^ 60), nan, nan, None) ∷ [])
+    ∷ averagesAre (Ewma.withParams +0 (ratio (10 ^ 200) 1) (ratio 1 (2 ^ 60)) (ratio (10 ^ 200) 1) First) (ofWhole 1 ∷ []) ((ratio 1 (2 ^ 60), nan, nan, None) ∷ [])
     -- Q115 an EWMA signals on both sides
     ∷ averagesSignal averages (neg (ratio 7 2) ∷ ofWhole 3 ∷ ratio 7 2 ∷ []) 2 (0 ∷ 2 ∷ 7 ∷ [])
     -- Q116 none again, once the sums are down
@@ -310,7 +320,38 @@ sideRows =
     -- Q117 a statistic that falls is still above
     ∷ averagesAre averages (ofWhole 4 ∷ ratio 7 2 ∷ []) ((ofWhole 4, neg (ofWhole 3), ofWhole 3, Above) ∷ (ratio 7 2, neg (ofWhole 3), ofWhole 3, Above) ∷ [])
     -- Q118 the side is by the limits about the target
-    ∷ averagesAre (Ewma.withParams (ofWhole 10) (ofWhole 1) (ofWhole 1) (ofWhole 3)) (wholes (12 ∷ [])) ((ofWhole 12, ofWhole 7, ofWhole 13, None) ∷ [])
+    ∷ averagesAre (Ewma.withParams (ofWhole 10) (ofWhole 1) (ofWhole 1) (ofWhole 3) First) (wholes (12 ∷ [])) ((ofWhole 12, ofWhole 7, ofWhole 13, None) ∷ [])
+    ∷ []
+
+-- ---- the editions of an EWMA: which place a reading has
+unfoldable pub editionRows : List Row
+editionRows =
+    -- Q119 a gap first has place 0 in the second edition, and the reading after it place 1
+    averagesAre (halving Second) (nan ∷ ofWhole 1 ∷ []) ((+0, +0, +0, None) ∷ (ratio 1 2, neg (ofWhole 2), ofWhole 2, None) ∷ [])
+    -- Q120 it has place 1 in the first
+    ∷ averagesAre (halving First) (nan ∷ []) ((+0, neg (ofWhole 2), ofWhole 2, None) ∷ [])
+    -- Q121 a gap in the middle repeats the limits
+    ∷ averagesAre (halving Second) (ofWhole 1 ∷ nan ∷ []) ((ratio 1 2, neg (ofWhole 2), ofWhole 2, None) ∷ (ratio 1 2, neg (ofWhole 2), ofWhole 2, None) ∷ [])
+    -- Q122 all gaps
+    ∷ averagesAre (halving Second) (nan ∷ -∞ ∷ []) ((+0, +0, +0, None) ∷ (+0, +0, +0, None) ∷ [])
+    -- Q123 a target of -0: limits are computed
+    ∷ averagesAre (Ewma.withParams (neg +0) (ofWhole 1) (ratio 1 2) (ofWhole 4) Second) (nan ∷ []) ((neg +0, neg +0, +0, None) ∷ [])
+    -- Q124 an infinite L·sigma times the zero width of place 0
+    ∷ averagesAre unbounded (nan ∷ []) ((+0, nan, nan, None) ∷ [])
+    -- Q125 and times the width of place 1
+    ∷ averagesAre unbounded (nan ∷ ofWhole 1 ∷ []) ((+0, nan, nan, None) ∷ (ofWhole 1, -∞, +∞, None) ∷ [])
+    -- Q126 a signal that only the second edition has: 2.27 at place 2
+    ∷ averagesSignal (halving Second) (ofWhole 0 ∷ nan ∷ ratio 227 50 ∷ []) 1 (2 ∷ 7 ∷ 7 ∷ [])
+    -- Q127 and at place 3 of the first
+    ∷ averagesSignal (halving First) (ofWhole 0 ∷ nan ∷ ratio 227 50 ∷ []) 0 (7 ∷ 7 ∷ 7 ∷ [])
+    -- Q128 a chart by `new` has the edition that it is given
+    ∷ averagesAre (Ewma.newOf +0 (ofWhole 1) Second) (nan ∷ []) ((+0, +0, +0, None) ∷ [])
+    -- Q129 be it the first
+    ∷ averagesAre (Ewma.newOf +0 (ofWhole 1) First) (nan ∷ []) ((+0, neg (ofPattern 0x3fe3333333333332), ofPattern 0x3fe3333333333332, None) ∷ [])
+    -- Q130 the side is by the limits of the place: 2.125 is beyond those of place 1
+    ∷ averagesAre (halving Second) (nan ∷ ratio 17 4 ∷ []) ((+0, +0, +0, None) ∷ (ratio 17 8, neg (ofWhole 2), ofWhole 2, Above) ∷ [])
+    -- Q131 the settings are tested in the second edition too
+    ∷ averagesRefuse (Ewma.withParams +0 (ofWhole 1) +0 (ofWhole 3) Second) (nan ∷ []) 0 (plain 17)
     ∷ []
 
 -- ---- the balls of a candidate, of which it keeps 64
@@ -339,4 +380,4 @@ ballRows =
 
 unfoldable pub furtherRows : List Row
 furtherRows =
-    functionalRows ++ (inequalityRows ++ (noiseRows ++ (refusalRows ++ (chartRows ++ (settingRows ++ (sideRows ++ (ballRows ++ (slackRows ++ (penaltyRows ++ (roundingRows ++ furtherRoundingRows))))))))))
+    functionalRows ++ (inequalityRows ++ (noiseRows ++ (refusalRows ++ (chartRows ++ (settingRows ++ (sideRows ++ (editionRows ++ (ballRows ++ (slackRows ++ (penaltyRows ++ (roundingRows ++ furtherRoundingRows)))))))))))

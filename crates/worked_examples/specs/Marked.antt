@@ -11,6 +11,7 @@ use Rattle.cusum.specs.Chart as Cusum
 use Rattle.cusum.specs.declared.Cusum.{Cusum}
 use Rattle.ewma.specs.Chart as Ewma
 use Rattle.ewma.specs.declared.Ewma.{Ewma}
+use Rattle.ewma.specs.declared.Edition.the-variants.{First}
 use Rattle.worked_examples.specs.Rows.{Row, wholes, custom, halves, plainly, strictly, finds, runsOut, refuses, resolves, gapAt, sumsAre, averagesAre, hears}
 
 -- 0 0 4 4, and with a gap
@@ -20,12 +21,12 @@ step = wholes (0 ∷ 0 ∷ 4 ∷ 4 ∷ [])
 abbrev pub gap : List Float
 gap = ofWhole 0 ∷ nan ∷ ofWhole 4 ∷ ofWhole 4 ∷ []
 
--- target 0, sigma 1: a CUSUM with the defaults; an EWMA with lambda 1 and L 3
+-- target 0, sigma 1: a CUSUM with the defaults; an EWMA of the first edition with lambda 1 and L 3
 abbrev pub sums : Cusum
 sums = Cusum.newOf +0 (ofWhole 1)
 
 abbrev pub averages : Ewma
-averages = Ewma.withParams +0 (ofWhole 1) (ofWhole 1) (ofWhole 3)
+averages = Ewma.withParams +0 (ofWhole 1) (ofWhole 1) (ofWhole 3) First
 
 unfoldable pub markedRows : List Row
 markedRows =

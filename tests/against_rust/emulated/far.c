@@ -91,9 +91,11 @@ static word chart(int function) {
         u32 sum = number();
         return overbrindle_cusum_run_length(a, b, c, d, level, sum, one());
     }
+    u32 edition = function > 6 ? number() : 0;
     struct slice r = slice(8), x = slice(8);
     if (function == 5) return overbrindle_cusum_signal_points(a, b, c, d, r.things, r.count, x.things, x.count, one());
-    if (function == 8) return overbrindle_ewma_signal_points(a, b, c, d, r.things, r.count, x.things, x.count, one());
+    if (function == 8)
+        return overbrindle_ewma_signal_points(a, b, c, d, edition, r.things, r.count, x.things, x.count, one());
     struct slice y = slice(8);
     if (function == 4) {
         struct slice s = slice(1), i = slice(8);
@@ -101,8 +103,8 @@ static word chart(int function) {
                                          s.count, i.things, i.count, one());
     }
     struct slice z = slice(8), s = slice(1), i = slice(8);
-    return overbrindle_ewma_analyze(a, b, c, d, r.things, r.count, x.things, x.count, y.things, y.count, z.things,
-                                    z.count, s.things, s.count, i.things, i.count, one());
+    return overbrindle_ewma_analyze(a, b, c, d, edition, r.things, r.count, x.things, x.count, y.things, y.count,
+                                    z.things, z.count, s.things, s.count, i.things, i.count, one());
 }
 
 static word bits(f64 x) { return *(word *)&x; }

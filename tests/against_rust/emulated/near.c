@@ -144,8 +144,7 @@ static void settings(word function, f64 a, f64 b, f64 c, f64 d) {
     value(a), value(b), value(c), value(d);
 }
 
-static u32 points(int function, f64 a, f64 b, f64 c, f64 d, const f64 *r, word rn, word *p, word pn, word *count) {
-    settings(function, a, b, c, d);
+static u32 points(const f64 *r, word rn, word *p, word pn, word *count) {
     word readings = things(r, rn, 8), found = things(p, pn, 8), place = one(count);
     u32 answer = call();
     kept(readings, rn);
@@ -154,10 +153,13 @@ static u32 points(int function, f64 a, f64 b, f64 c, f64 d, const f64 *r, word r
     return answer;
 }
 u32 overbrindle_cusum_signal_points(f64 a, f64 b, f64 c, f64 d, const f64 *r, word rn, word *p, word pn, word *count) {
-    return points(5, a, b, c, d, r, rn, p, pn, count);
+    settings(5, a, b, c, d);
+    return points(r, rn, p, pn, count);
 }
-u32 overbrindle_ewma_signal_points(f64 a, f64 b, f64 c, f64 d, const f64 *r, word rn, word *p, word pn, word *count) {
-    return points(8, a, b, c, d, r, rn, p, pn, count);
+u32 overbrindle_ewma_signal_points(f64 a, f64 b, f64 c, f64 d, u32 edition, const f64 *r, word rn, word *p, word pn,
+                                   word *count) {
+    settings(8, a, b, c, d), number(edition);
+    return points(r, rn, p, pn, count);
 }
 
 u32 overbrindle_cusum_run_length(f64 a, f64 b, f64 c, f64 d, f64 level, u32 sum, word *reading) {
@@ -180,9 +182,9 @@ u32 overbrindle_cusum_analyze(f64 a, f64 b, f64 c, f64 d, const f64 *r, word rn,
     one_taken(count, place);
     return answer;
 }
-u32 overbrindle_ewma_analyze(f64 a, f64 b, f64 c, f64 d, const f64 *r, word rn, f64 *x, word xn, f64 *y, word yn, f64 *z,
-                             word zn, u8 *s, word sn, word *i, word in, word *count) {
-    settings(7, a, b, c, d);
+u32 overbrindle_ewma_analyze(f64 a, f64 b, f64 c, f64 d, u32 edition, const f64 *r, word rn, f64 *x, word xn, f64 *y,
+                             word yn, f64 *z, word zn, u8 *s, word sn, word *i, word in, word *count) {
+    settings(7, a, b, c, d), number(edition);
     word readings = things(r, rn, 8), first = things(x, xn, 8), second = things(y, yn, 8), third = things(z, zn, 8);
     word side = things(s, sn, 1), index = things(i, in, 8), place = one(count);
     u32 answer = call();

@@ -11,21 +11,22 @@ use Rattle.charts.specs.Answers.{admittedAs}
 use Rattle.charts.proofs.Answers.{few-records}
 use Rattle.charts.specs.Runs.{following}
 use Rattle.charts.proofs.Columns.{Going, not-gone}
-use Rattle.ewma.specs.Chart.{testsOf, fresh, itself, nextRecord}
-use Rattle.ewma.specs.Settled.{settledOf}
-use Rattle.ewma.proofs.AtRest.{following-settles}
+use Rattle.ewma.specs.Chart.{recordOf, fresh, nextOf}
+use Rattle.ewma.specs.Settled.{stateOf}
+use Rattle.ewma.proofs.AtRest.{placed, turn}
 use Rattle.c_answers.specs.Told.{countedOf}
+use Rattle.c_charts.specs.Editions.{askedTests}
 use Rattle.c_charts.specs.EwmaColumns.{roomOf}
 use Rattle.c_charts.proofs.EwmaLaws.{Filled, Room, arrays-are, written-room, ewma-length, ucl-length, lcl-length, side-length, index-length, all-done, one-more}
 use Rattle.c_charts.proofs.ewma_columns.ewma_analyze.Statement.{statement}
 use Rattle.c_charts.proofs.ewma_columns.ewma_analyze.Tie as tie
 
 abbrev Inv-loop : tie.InvT-loop
-Inv-loop chart «data» ewma₀ ucl₀ lcl₀ side₀ index₀ room answer n state₀ i₀ ewma ucl lcl side index state i =
-    Going itself fresh nextRecord chart «data» n (state .shown) i × Filled chart «data» i ewma₀ ewma ucl₀ ucl lcl₀ lcl side₀ side index₀ index × (state .settled ≡ settledOf chart)
+Inv-loop «data» ewma₀ ucl₀ lcl₀ side₀ index₀ room answer n chart state₀ i₀ ewma ucl lcl side index state i =
+    Going recordOf fresh nextOf chart «data» n (placed state) i × Filled chart «data» i ewma₀ ewma ucl₀ ucl lcl₀ lcl side₀ side index₀ index × (state ≡ stateOf chart (placed state))
 
 abbrev μ-loop : tie.MeasureT-loop
-μ-loop chart «data» ewma₀ ucl₀ lcl₀ side₀ index₀ room answer n state₀ i₀ ewma ucl lcl side index state i = n - i
+μ-loop «data» ewma₀ ucl₀ lcl₀ side₀ index₀ room answer n chart state₀ i₀ ewma ucl lcl side index state i = n - i
 
 shorter-requires : tie.Need-shorter-requires Inv-loop μ-loop
 shorter-requires c κs = tt
@@ -39,23 +40,26 @@ judge-requires c κs = tt
 count-requires : tie.Need-count-requires Inv-loop μ-loop
 count-requires c κs = tt
 
+chart-of-requires : tie.Need-chart-of-requires Inv-loop μ-loop
+chart-of-requires c κs = tt
+
 start-requires : tie.Need-start-requires Inv-loop μ-loop
 start-requires c κs = tt
 
 loop-holds : tie.Need-loop-holds Inv-loop μ-loop
-loop-holds c = rw (c .start .ensures) (not-gone itself fresh nextRecord _ _ _, record { ewma-left = refl; ucl-left = refl; lcl-left = refl; side-left = refl; index-left = refl }, refl)
+loop-holds c = rw (c .start .ensures) (not-gone recordOf fresh nextOf _ _ _, record { ewma-left = refl; ucl-left = refl; lcl-left = refl; side-left = refl; index-left = refl }, refl)
 
 following-requires : tie.Need-following-requires Inv-loop μ-loop
 following-requires c κs = tt
 
 -- the answer, and that its records have room
-answered : (c : tie.At-loop Inv-loop μ-loop) → let a = c .before .before .before .before .before .before .before .before .before .before .before .before .args in c .before .before .before .judge .result ≡ admittedAs (testsOf (a .chart)) (length (now (a .«data»))) (roomOf (now (a .ewma)) (now (a .ucl)) (now (a .lcl)) (now (a .side)) (now (a .index)))
-answered c = c .before .before .before .judge .ensures ∙ rw (c .before .before .before .before .shortest .ensures, c .before .before .before .before .before .shorter .ensures) refl
+answered : (c : tie.At-loop Inv-loop μ-loop) → let a = c .before .before .before .before .before .before .before .before .before .before .before .before .before .args in c .before .before .before .before .judge .result ≡ admittedAs (askedTests (a .asked)) (length (now (a .«data»))) (roomOf (now (a .ewma)) (now (a .ucl)) (now (a .lcl)) (now (a .side)) (now (a .index)))
+answered c = c .before .before .before .before .judge .ensures ∙ rw (c .before .before .before .before .before .shortest .ensures, c .before .before .before .before .before .before .shorter .ensures) refl
 
-counted : (c : tie.At-loop Inv-loop μ-loop) → let a = c .before .before .before .before .before .before .before .before .before .before .before .before .args in c .before .before .count .result ≡ countOf (admittedAs (testsOf (a .chart)) (length (now (a .«data»))) (roomOf (now (a .ewma)) (now (a .ucl)) (now (a .lcl)) (now (a .side)) (now (a .index))))
-counted c = c .before .before .count .ensures ∙ ap countOf (answered c)
+counted : (c : tie.At-loop Inv-loop μ-loop) → let a = c .before .before .before .before .before .before .before .before .before .before .before .before .before .args in c .before .before .before .count .result ≡ countOf (admittedAs (askedTests (a .asked)) (length (now (a .«data»))) (roomOf (now (a .ewma)) (now (a .ucl)) (now (a .lcl)) (now (a .side)) (now (a .index))))
+counted c = c .before .before .before .count .ensures ∙ ap countOf (answered c)
 
-fits : (c : tie.At-loop Inv-loop μ-loop) → let a = c .before .before .before .before .before .before .before .before .before .before .before .before .args in (c .before .before .count .result ≤ length (now (a .«data»))) × Room (c .before .before .count .result) (now (a .ewma)) (now (a .ucl)) (now (a .lcl)) (now (a .side)) (now (a .index))
+fits : (c : tie.At-loop Inv-loop μ-loop) → let a = c .before .before .before .before .before .before .before .before .before .before .before .before .before .args in (c .before .before .before .count .result ≤ length (now (a .«data»))) × Room (c .before .before .before .count .result) (now (a .ewma)) (now (a .ucl)) (now (a .lcl)) (now (a .side)) (now (a .index))
 fits c = rw (counted c) (written-room _ _ _ _ _ _ _)
 
 ewma-within : (c : tie.In-loop Inv-loop μ-loop) → c .before .loop .i < length (c .before .loop .ewma)
@@ -83,7 +87,7 @@ index-within c =
     let e = index-length (fits (c .before) .1) (c .before .loop .inv .0) (c .before .loop .inv .1) in
     omega (arith, e, c .loop-test .taken, fits (c .before) .1 .index-room)
 
-few : (c : tie.At-loop Inv-loop μ-loop) → c .before .before .count .result ≤ 4096
+few : (c : tie.At-loop Inv-loop μ-loop) → c .before .before .before .count .result ≤ 4096
 few c = rw (counted c) (few-records _ _ _)
 
 -- an index of a reading is small
@@ -126,13 +130,12 @@ add-i c = omega (arith, small (c .before .before .before .before))
 loop-less : tie.Need-loop-less Inv-loop μ-loop
 loop-less c = omega (arith, c .before .before .before .before .loop-test .taken)
 
--- the state moves on as the chart's records do
-moves : (c : tie.After-following Inv-loop μ-loop) → let at = c .before .before in let a = at .before .before .before .before .before .before .before .before .before .before .before .before .args in
-    (c .following .result .shown ≡ following nextRecord (a .chart) (now (a .«data»)) (at .loop .i) (at .loop .state .shown)) × (c .following .result .settled ≡ settledOf (a .chart))
+-- the state moves on as the chart does
+moves : (c : tie.After-following Inv-loop μ-loop) → let at = c .before .before in let chart = at .before .before .chart-of .result in
+    (placed (c .following .result) ≡ following nextOf chart (now (at .before .before .before .before .before .before .before .before .before .before .before .before .before .args .«data»)) (at .loop .i) (placed (at .loop .state))) × (c .following .result ≡ stateOf chart (placed (c .following .result)))
 moves c =
     let at = c .before .before in
-    let a = at .before .before .before .before .before .before .before .before .before .before .before .before .args in
-    rw (c .following .ensures) (following-settles (a .chart) (at .loop .state) (at .loop .i) (at .loop .inv .2) (small (c .before)) (now (a .«data»)))
+    turn (at .before .before .chart-of .result) (now (at .before .before .before .before .before .before .before .before .before .before .before .before .before .args .«data»)) (at .loop .i) (at .loop .state) (c .following .result) (at .loop .inv .2) (at .loop .inv .0 .state) (small (c .before)) (c .following .ensures)
 
 loop-again : tie.Need-loop-again Inv-loop μ-loop
 loop-again c =
@@ -161,10 +164,11 @@ same-length-5 c = index-length (fits (c .before .before) .1) (c .before .before 
 
 returns : tie.Need-returns Inv-loop μ-loop
 returns c =
-    arrays-are _ (c .answered .ensures ∙ ap (λ (r : Answer). countedOf (said r)) (answered (c .before .before)))
-    (rw (counted (c .before .before)) at (all-done (fits (c .before .before) .1) (c .before .before .loop .inv .0) (c .before .before .loop .inv .1) (c .before .loop-test .left)))
+    let at = c .before .before in
+    arrays-are _ _ (c .answered .ensures ∙ ap (λ (r : Answer). countedOf (said r)) (answered at))
+    (rw (counted at, at .before .before .chart-of .ensures) at (all-done (fits at .1) (at .loop .inv .0) (at .loop .inv .1) (c .before .loop-test .left)))
 
 pub ewma-analyze-spec : {M : Type 1} → statement M
 ewma-analyze-spec =
     tie.close
-    (tie.spec Inv-loop μ-loop shorter-requires shortest-requires judge-requires count-requires start-requires loop-holds following-requires mul-ewma slice-write-ewma mul-ucl slice-write-ucl mul-lcl slice-write-lcl side-number-requires slice-write-side mul-index slice-write-index add-i loop-less loop-again answered-requires same-length same-length-2 same-length-3 same-length-4 same-length-5 returns)
+    (tie.spec Inv-loop μ-loop shorter-requires shortest-requires judge-requires count-requires chart-of-requires start-requires loop-holds following-requires mul-ewma slice-write-ewma mul-ucl slice-write-ucl mul-lcl slice-write-lcl side-number-requires slice-write-side mul-index slice-write-index add-i loop-less loop-again answered-requires same-length same-length-2 same-length-3 same-length-4 same-length-5 returns)

@@ -45,7 +45,7 @@ unfolding code.routine tablesOf
 analyze-spec 𝓤 H 𝓜 𝓖 𝓡 =
     entered 𝓤 H (tripleOf 𝓤 H (𝓖 .A) analyze.signature (analyze.spec 𝓤 H (𝓖 .A) (𝓜 .mem) (𝓡 .run)))
     (tables 𝓤 H 𝓜 𝓡 code.env .C) (tables 𝓤 H 𝓜 𝓡 code.env .Λ) #ewma·analyze code.function (code.unfolded 𝓤 H 𝓜 𝓡)
-    (meets KC KR KV KS (S.struct .name) tail-types judgeOf countOf shownOf startState nextState Outcome 𝓤 H (𝓖 .A) good-c good-r good-v good-s (λ s. vcons (KW .val (s .settled)) vnil) (λ s. refl) (λ s is. SL.owed S.the-type S′.the-laws s _ is .0)
+    (meets KC KR KV KS (S.struct .name) tail-types judgeOf countOf shownOf startState nextState Outcome 𝓤 H (𝓖 .A) good-c good-r good-v good-s (λ s. vcons (KW .val (s .limits)) vnil) (λ s. refl) (λ s is. SL.owed S.the-type S′.the-laws s _ is .0)
     (λ c. within-both (testsOf c)) settled-analyzed (givenOf 𝓤 H 𝓜 𝓖) 40 tt refl judge-def.name count-def.name start-def.name following-def.name (tablesOf 𝓤 H 𝓜 (tables 𝓤 H 𝓜 𝓡 code.env))
     (cited 𝓤 H (Judge KC KR KV KS (S.struct .name) tail-types judgeOf countOf shownOf startState nextState Outcome 𝓤 H (𝓖 .A)) 𝓜 𝓡 code.env judge-def.name judge-def.routine code.calls-ewma·step·judge (judge-thm.met 𝓤 H 𝓜 𝓖 𝓡))
     (cited 𝓤 H (Count KC KR KV KS (S.struct .name) tail-types judgeOf countOf shownOf startState nextState Outcome 𝓤 H (𝓖 .A)) 𝓜 𝓡 code.env count-def.name count-def.routine code.calls-charts·count (count-thm.met 𝓤 H 𝓜 𝓖 𝓡))

@@ -11,14 +11,14 @@ use Rattle.refusals.specs.Tried.{countOf}
 use Rattle.charts.specs.Answers.{admittedAs}
 use Rattle.charts.proofs.Answers.{within-both, few-records}
 use Rattle.charts.proofs.Loops.{Marking, none-marked, marked-length, all-marked, one-more, signalled-leaves}
-use Rattle.ewma.specs.Chart.{testsOf, fresh, itself, nextRecord, signalOf, signalling}
-use Rattle.ewma.specs.Settled.{settledOf}
-use Rattle.ewma.proofs.AtRest.{following-settles}
+use Rattle.ewma.specs.Chart.{testsOf, recordOf, fresh, nextOf, signalOf, signalling}
+use Rattle.ewma.specs.Settled.{stateOf}
+use Rattle.ewma.proofs.AtRest.{placed, turn}
 use Rattle.ewma.proofs.Ewma.signal_points.Statement.{statement}
 use Rattle.ewma.proofs.Ewma.signal_points.Tie as tie
 
 abbrev Inv-loop : tie.InvT-loop
-Inv-loop self «data» points₀ answer n state₀ count₀ i₀ points state count i = Marking itself fresh nextRecord signalOf self «data» n points₀ (state .shown) count i points × (state .settled ≡ settledOf self)
+Inv-loop self «data» points₀ answer n state₀ count₀ i₀ points state count i = Marking recordOf fresh nextOf signalOf self «data» n points₀ (placed state) count i points × (state ≡ stateOf self (placed state))
 
 abbrev μ-loop : tie.MeasureT-loop
 μ-loop self «data» points₀ answer n state₀ count₀ i₀ points state count i = n - i
@@ -33,7 +33,7 @@ start-requires : tie.Need-start-requires Inv-loop μ-loop
 start-requires c κs = tt
 
 loop-holds : tie.Need-loop-holds Inv-loop μ-loop
-loop-holds c = rw (c .start .ensures) (none-marked itself fresh nextRecord signalOf _ _ _ _, refl)
+loop-holds c = rw (c .start .ensures) (none-marked recordOf fresh nextOf signalOf _ _ _ _, refl)
 
 -- how many readings are looked at, that both slices are at least that long, and that they are few
 counted : (c : tie.At-loop Inv-loop μ-loop) → let a = c .before .before .before .before .before .before .args in c .before .before .count .result ≡ countOf (admittedAs (testsOf (a .self)) (length (now (a .«data»))) (length (now (a .points))))
@@ -57,14 +57,14 @@ add-i c = search needs
 loop-less : tie.Need-loop-less Inv-loop μ-loop
 loop-less c = search needs
 
--- the state moves on as the chart's records do
+-- the state moves on as the chart does
 moves : (c : tie.After-following Inv-loop μ-loop) → let at = c .before .before in let a = at .before .before .before .before .before .before .args in
-    (c .following .result .shown ≡ nextRecord (a .self) (at .loop .state .shown) (at .loop .i) (getD (now (a .«data»)) (at .loop .i) nan)) × (c .following .result .settled ≡ settledOf (a .self))
+    (placed (c .following .result) ≡ nextOf (a .self) (placed (at .loop .state)) (at .loop .i) (getD (now (a .«data»)) (at .loop .i) nan)) × (c .following .result ≡ stateOf (a .self) (placed (c .following .result)))
 moves c =
     let at = c .before .before in
     let a = at .before .before .before .before .before .before .args in
-    let m = following-settles (a .self) (at .loop .state) (at .loop .i) (at .loop .inv .1) (omega (arith, c .before .loop-test .taken, fits at .2)) (now (a .«data»)) in
-    rw (c .following .ensures) (rw (following-is nextRecord (a .self) (now (a .«data»)) (at .loop .i) (at .loop .state .shown) (omega (arith, c .before .loop-test .taken, fits at .0))) at (m .0), m .1)
+    let m = turn (a .self) (now (a .«data»)) (at .loop .i) (at .loop .state) (c .following .result) (at .loop .inv .1) (at .loop .inv .0 .state) (omega (arith, c .before .loop-test .taken, fits at .2)) (c .following .ensures) in
+    (m .0 ∙ following-is nextOf (a .self) (now (a .«data»)) (at .loop .i) (placed (at .loop .state)) (omega (arith, c .before .loop-test .taken, fits at .0)), m .1)
 
 loop-again : tie.Need-loop-again Inv-loop μ-loop
 loop-again c =
@@ -73,13 +73,13 @@ loop-again c =
     let went = told .before .before in
     let at = went .before .before in
     let m = moves went in
-    (one-more itself fresh nextRecord signalOf _ _ _ _ _ _ _ _ (at .loop .inv .0) (fits at .1) _ _ _ (went .before .loop-test .taken) (m .0) (rw (told .signals .ensures) at (noted .note .ensures)), m .1)
+    (one-more recordOf fresh nextOf signalOf _ _ _ _ _ _ _ _ (at .loop .inv .0) (fits at .1) _ _ _ (went .before .loop-test .taken) (m .0) (rw (told .signals .ensures) at (noted .note .ensures)), m .1)
 
 marked-requires : tie.Need-marked-requires Inv-loop μ-loop
 marked-requires c κs = tt
 
 same-length : tie.Need-same-length Inv-loop μ-loop
-same-length c = marked-length itself fresh nextRecord signalOf _ _ _ _ _ _ _ _ (c .before .before .loop .inv .0) (fits (c .before .before) .1)
+same-length c = marked-length recordOf fresh nextOf signalOf _ _ _ _ _ _ _ _ (c .before .before .loop .inv .0) (fits (c .before .before) .1)
 
 returns : tie.Need-returns Inv-loop μ-loop
 returns c =
@@ -87,7 +87,7 @@ returns c =
     let a = at .before .before .before .before .before .before .args in
     rw (c .marked .ensures, at .before .before .before .judge .ensures)
     (signalled-leaves (testsOf (a .self)) (length (now (a .«data»))) (signalling (a .self) (now (a .«data»))) (now (a .points)) _ _ refl
-    (rw (counted at) at (all-marked itself fresh nextRecord signalOf _ _ _ _ _ _ _ _ (at .loop .inv .0) (fits at .1) (c .before .loop-test .left))))
+    (rw (counted at) at (all-marked recordOf fresh nextOf signalOf _ _ _ _ _ _ _ _ (at .loop .inv .0) (fits at .1) (c .before .loop-test .left))))
 
 pub signal-points-spec : {M : Type 1} → statement M
 signal-points-spec =

@@ -1,30 +1,26 @@
 -- `ewma::step::following` meets its contract. Assumes nothing.
-use native.Mathlib.Numerals.{add-one}
 use borrow.Author.Needs.{needs}
 use borrow.Author.Tests.{lt-ltb, le-ltb}
 use Rattle.ewma.proofs.step.following.Statement.{statement}
 use Rattle.ewma.proofs.step.following.Tie as tie
 
-add-step-by : tie.Need-add-step-by
-add-step-by c = search needs
+mul-x : tie.Need-mul-x
+mul-x c = search needs
 
-width-from-requires : tie.Need-width-from-requires
-width-from-requires c κs = search needs
+shared-slice-read-x : tie.Need-shared-slice-read-x
+shared-slice-read-x c = search needs
 
-mul-step-by : tie.Need-mul-step-by
-mul-step-by c = search needs
-
-shared-slice-read-step-by : tie.Need-shared-slice-read-step-by
-shared-slice-read-step-by c = search needs
+limits-after-requires : tie.Need-limits-after-requires
+limits-after-requires c κs = search needs
 
 step-by-requires : tie.Need-step-by-requires
 step-by-requires c κs = tt
 
 returns : tie.Need-returns
-returns c = rw (lt-ltb _ _ (c .before .before .before .before .before .if1 .taken), c .step-by .ensures, c .before .before .width-from .ensures, add-one)
+returns c = rw (lt-ltb _ _ (c .before .before .before .before .if1 .taken), c .step-by .ensures, c .before .limits-after .ensures)
 
 returns-2 : tie.Need-returns-2
 returns-2 c = rw (le-ltb _ _ (c .if1 .left))
 
 pub following-spec : {M : Type 1} → statement M
-following-spec = tie.close (tie.spec add-step-by width-from-requires mul-step-by shared-slice-read-step-by step-by-requires returns returns-2)
+following-spec = tie.close (tie.spec mul-x shared-slice-read-x limits-after-requires step-by-requires returns returns-2)

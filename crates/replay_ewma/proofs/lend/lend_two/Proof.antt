@@ -14,13 +14,14 @@ use denote.Triple.Table.{entered, cited}
 use Rattle.refusals.specs.Tried.{countOf}
 use Rattle.refusals.specs.declared.Answer.{Answer}
 use Rattle.charts.proofs.Plain.{Kind, Good, kindOf, rowOf, vals}
-use Rattle.charts.proofs.Loops.{analyzed-is}
 use Rattle.charts.proofs.AnswerKind.{KV, good-v}
 use Rattle.charts.proofs.ByValue.{meets, Analyze}
-use Rattle.ewma.specs.Chart.{testsOf, fresh, itself, nextRecord}
+use Rattle.ewma.specs.Settled.{shownOf, startState, nextState}
 use Rattle.ewma.specs.declared.EwmaResult.{EwmaResult}
 use Rattle.ewma.proofs.EwmaResult as R
-use Rattle.ewma.proofs.Types.{Outcome, KC, KR, good-c, good-r}
+use Rattle.ewma.proofs.State as S
+use Rattle.ewma.proofs.AtRest.{settled-decides}
+use Rattle.ewma.proofs.Types.{Outcome, KC, KR, KS, good-c, good-r}
 use Rattle.ewma.proofs.Ewma.analyze.Symbol as analyze-def
 use Rattle.ewma.proofs.Ewma.analyze.Met as analyze-thm
 use Rattle.replay_ewma.specs.declared.lend.LentTwo.{LentTwo}
@@ -50,6 +51,6 @@ unfolding code.routine tablesOf
 lend-two-spec 𝓤 H 𝓜 𝓖 𝓡 =
     entered 𝓤 H (tripleOf 𝓤 H (𝓖 .A) lend-two.signature (lend-two.spec 𝓤 H (𝓖 .A) (𝓜 .mem) (𝓡 .run)))
     (tables 𝓤 H 𝓜 𝓡 code.env .C) (tables 𝓤 H 𝓜 𝓡 code.env .Λ) #lend-two code.function (code.unfolded 𝓤 H 𝓜 𝓡)
-    (meets KC KR KV KR KL (R.struct .name) tnil 2 𝓤 judgeOf countOf itself fresh nextRecord Outcome H (𝓖 .A) good-c good-r good-v good-l (analyzed-is itself fresh nextRecord testsOf) mk owes (lit< tt, lit< tt)
+    (meets KC KR KV KS KL (S.struct .name) tnil 2 𝓤 judgeOf countOf shownOf startState nextState Outcome H (𝓖 .A) good-c good-r good-v good-l settled-decides mk owes (lit< tt, lit< tt)
     (givenOf 𝓤 H 𝓜 𝓖) analyze-def.name (tablesOf 𝓤 H 𝓜 (tables 𝓤 H 𝓜 𝓡 code.env))
-    (cited 𝓤 H (Analyze KC KR KV KR KL (R.struct .name) tnil 2 𝓤 judgeOf countOf itself fresh nextRecord Outcome H (𝓖 .A)) 𝓜 𝓡 code.env analyze-def.name analyze-def.routine code.calls-ewma·Ewma·analyze (analyze-thm.met 𝓤 H 𝓜 𝓖 𝓡)))
+    (cited 𝓤 H (Analyze KC KR KV KS KL (S.struct .name) tnil 2 𝓤 judgeOf countOf shownOf startState nextState Outcome H (𝓖 .A)) 𝓜 𝓡 code.env analyze-def.name analyze-def.routine code.calls-ewma·Ewma·analyze (analyze-thm.met 𝓤 H 𝓜 𝓖 𝓡)))
