@@ -200,6 +200,11 @@ module _ (c : Ewma) (xs : List Float) where
 
 -- ---- the first edition: the run is the Rust's
 module _ (c : Ewma) (xs : List Float) where
+  -- the place counts the readings
+  pub first-counts : (n : ℕ) → placeAt (under First c) xs n .0 ≡ n
+  first-counts zero = refl
+  first-counts (suc n) = refl
+
   first-states : (n : ℕ) → after (under First c) xs n .0 ≡ stateAt itself blank nextRecord c xs n
   unfolding stepOf halfWidth
   first-states zero = refl

@@ -61,7 +61,7 @@ opened call = outcome call
 -- ---- the tables
 
 -- how many rows there are: of the marked examples P8, P9 and P13 have two each
-pub sizes : (length markedRows ≡ 16) × (length furtherRows ≡ 131)
+pub sizes : (length markedRows ≡ 16) × (length furtherRows ≡ 133)
 unfolding markedRows furtherRows functionalRows inequalityRows noiseRows refusalRows chartRows settingRows sideRows editionRows ballRows slackRows penaltyRows roundingRows furtherRoundingRows
 sizes = (refl, refl)
 

@@ -1,4 +1,4 @@
--- Rows of our own, Q1 to Q131: each catches a wrong program that the worked examples let pass. Definitions only.
+-- Rows of our own, Q1 to Q133: each catches a wrong program that the worked examples let pass. Definitions only.
 use Prim.Native.Nat.{_-_, _*_, _^_}
 use mathlib.Core.Bool.{true, false}
 use mathlib.Core.List.{List, [], _∷_, _++_}
@@ -352,6 +352,10 @@ editionRows =
     ∷ averagesAre (halving Second) (nan ∷ ratio 17 4 ∷ []) ((+0, +0, +0, None) ∷ (ratio 17 8, neg (ofWhole 2), ofWhole 2, Above) ∷ [])
     -- Q131 the settings are tested in the second edition too
     ∷ averagesRefuse (Ewma.withParams +0 (ofWhole 1) +0 (ofWhole 3) Second) (nan ∷ []) 0 (plain 17)
+    -- Q132 and more readings than are taken are refused
+    ∷ averagesRefuse (halving Second) tooMany 0 (plain 6)
+    -- Q133 a gap after a signal is none, and what follows it has place 2
+    ∷ averagesSignal (halving Second) (ofWhole 8 ∷ nan ∷ ratio 1 4 ∷ []) 1 (0 ∷ 7 ∷ 7 ∷ [])
     ∷ []
 
 -- ---- the balls of a candidate, of which it keeps 64

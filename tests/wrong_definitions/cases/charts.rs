@@ -2,7 +2,7 @@
 //! than a chart takes readings.
 
 use crate::stored::Stored;
-use crate::{Call, Chart, CusumResult, EwmaResult, Outcome, Said, Side, Stated, Sum};
+use crate::{Call, Chart, CusumResult, Edition, EwmaResult, Outcome, Said, Side, Stated, Sum};
 use std::ops::ControlFlow;
 use std::rc::Rc;
 
@@ -175,8 +175,11 @@ pub fn cusum_cases(stored: &mut Stored) -> ControlFlow<()> {
         stored.begun();
         let letter = stored.reader.letter();
         let values = stored.reader.floats();
-        let by_new = letter == b'n';
-        let chart = Chart { by_new, values };
+        let chart = Chart {
+            by_new: letter == b'n',
+            values,
+            edition: Edition::First,
+        };
         match letter {
             b'u' => run_length(stored, chart, Sum::Upper)?,
             b'l' => run_length(stored, chart, Sum::Lower)?,
@@ -186,12 +189,28 @@ pub fn cusum_cases(stored: &mut Stored) -> ControlFlow<()> {
     ControlFlow::Continue(())
 }
 
+/// By a case's letter: whether an EWMA is made by `new`, and its edition.
+fn made_by(letter: u8) -> (bool, Edition) {
+    match letter {
+        b'n' => (true, Edition::First),
+        b'p' => (false, Edition::First),
+        b'N' => (true, Edition::Second),
+        b'P' => (false, Edition::Second),
+        other => panic!("no case of an EWMA has the letter {other}"),
+    }
+}
+
 pub fn ewma_cases(stored: &mut Stored) -> ControlFlow<()> {
     while !stored.reader.ended() {
         stored.begun();
-        let by_new = stored.reader.letter() == b'n';
+        let (by_new, edition) = made_by(stored.reader.letter());
         let values = stored.reader.floats();
-        ewma_series(stored, Chart { by_new, values })?;
+        let chart = Chart {
+            by_new,
+            values,
+            edition,
+        };
+        ewma_series(stored, chart)?;
     }
     ControlFlow::Continue(())
 }

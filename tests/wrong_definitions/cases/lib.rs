@@ -84,11 +84,20 @@ pub struct Search {
     pub areas: Areas,
 }
 
-/// A chart by `new`, of which only the first two settings count, or with all four of them.
+/// By which edition an EWMA counts the places of its readings.
+#[derive(Clone, Copy, PartialEq, Debug)]
+pub enum Edition {
+    First,
+    Second,
+}
+
+/// A chart by `new`, of which only the first two settings count, or with all four of them. Only an EWMA has
+/// more than one edition: that of a CUSUM is the first.
 #[derive(Clone, Copy, Debug)]
 pub struct Chart {
     pub by_new: bool,
     pub values: [f64; 4],
+    pub edition: Edition,
 }
 
 /// On which sides a record signals.

@@ -5,6 +5,7 @@ use crate::syntax::{definitions_of, Definition, Expression, Form};
 use crate::words::{list, Value, WORDS};
 use crate::{Call, Outcome};
 use std::collections::HashMap;
+use std::rc::Rc;
 
 /// A row by its name.
 pub struct Row {
@@ -13,13 +14,17 @@ pub struct Row {
     pub expected: Outcome,
 }
 
-/// What names stand for, with those of files that were read before.
-#[derive(Default)]
-pub struct Names(HashMap<String, Value>);
+/// What names stand for, with those of files that were read before, and the definitions of those that are
+/// given something.
+#[derive(Clone, Default)]
+pub struct Names {
+    values: HashMap<String, Value>,
+    given: HashMap<String, Rc<Definition>>,
+}
 
 impl Names {
     fn word(&self, text: &str) -> Value {
-        if let Some(value) = self.0.get(text) {
+        if let Some(value) = self.values.get(text) {
             return value.clone();
         }
         if let Some(word) = WORDS.iter().find(|(name, ..)| *name == text) {
@@ -39,9 +44,11 @@ impl Names {
         let value = match &expression.form {
             Form::Word(text) => self.word(text),
             Form::Apply(parts) => {
-                let mut values: Vec<Value> = parts.iter().map(|p| self.value(p)).collect();
-                let function = values.remove(0);
-                applied(function, values)
+                let values = parts[1..].iter().map(|p| self.value(p)).collect();
+                match self.defined(&parts[0]) {
+                    Some(definition) => self.unfolded(definition, values),
+                    None => applied(self.value(&parts[0]), values),
+                }
             }
             Form::Tuple(parts) => Value::Tuple(parts.iter().map(|p| self.value(p)).collect()),
             Form::Operation(operator, left, right) => {
@@ -51,9 +58,32 @@ impl Names {
         named(value, &expression.label)
     }
 
-    fn define(&mut self, definition: &Definition) {
-        let value = self.value(&definition.body);
-        self.0.insert(definition.name.clone(), value);
+    /// The definition of a name that is given something.
+    fn defined(&self, function: &Expression) -> Option<&Definition> {
+        match &function.form {
+            Form::Word(text) => self.given.get(text).map(|definition| &**definition),
+            _ => None,
+        }
+    }
+
+    /// What a definition stands for once it is given all that it takes.
+    fn unfolded(&self, definition: &Definition, values: Vec<Value>) -> Value {
+        let (name, takes) = (&definition.name, definition.given.len());
+        assert_eq!(values.len(), takes, "what {name} is given");
+        let mut names = self.clone();
+        let given = definition.given.iter().cloned();
+        names.values.extend(given.zip(values));
+        names.value(&definition.body)
+    }
+
+    fn define(&mut self, definition: Definition) {
+        let name = definition.name.clone();
+        if definition.given.is_empty() {
+            let value = self.value(&definition.body);
+            self.values.insert(name, value);
+        } else {
+            self.given.insert(name, Rc::new(definition));
+        }
     }
 }
 
@@ -116,7 +146,7 @@ pub fn rows_of(texts: &[&str], table: &str) -> Vec<Row> {
     let mut names = Names::default();
     for text in texts {
         for definition in definitions_of(text) {
-            names.define(&definition);
+            names.define(definition);
         }
     }
     list(&names.word(table)).iter().map(row_of).collect()

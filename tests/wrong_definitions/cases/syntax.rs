@@ -17,9 +17,10 @@ pub enum Form {
     Tuple(Vec<Expression>),
 }
 
-/// A name and what stands for it.
+/// A name, the names of what it is given, and what stands for it.
 pub struct Definition {
     pub name: String,
+    pub given: Vec<String>,
     pub body: Expression,
 }
 
@@ -160,22 +161,25 @@ fn parsed(lines: &[&str]) -> Expression {
     whole
 }
 
-/// The definitions of a file: `name = ..` at the line's start, with the lines below that are set in.
+/// The definitions of a file: `name = ..` at the line's start, or `name given = ..`, with the lines below
+/// that are set in.
 pub fn definitions_of(text: &str) -> Vec<Definition> {
     let lines: Vec<&str> = text.lines().collect();
     let mut definitions = Vec::new();
     for (at, line) in lines.iter().enumerate() {
-        let Some((name, first)) = line.split_once(" =") else {
+        let Some((names, first)) = line.split_once(" =") else {
             continue;
         };
-        if line.starts_with([' ', '-']) || name.contains(' ') {
+        if line.starts_with([' ', '-']) {
             continue;
         }
+        let mut names = names.split_whitespace().map(String::from);
         let inner = |line: &&&str| line.starts_with(' ');
         let mut body = vec![first];
         body.extend(lines[at + 1..].iter().take_while(inner));
         definitions.push(Definition {
-            name: name.to_string(),
+            name: names.next().expect("a name"),
+            given: names.collect(),
             body: parsed(&body),
         });
     }

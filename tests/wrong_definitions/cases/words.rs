@@ -2,7 +2,7 @@
 //! stand in `WORDS`: a word that gets another name there gets it here, and nowhere else.
 
 use crate::naturals::{nearest, Natural};
-use crate::{Areas, Ball, Call, Chart, Cost, CusumResult, EwmaResult, Outcome};
+use crate::{Areas, Ball, Call, Chart, Cost, CusumResult, Edition, EwmaResult, Outcome};
 use crate::{Penalty, Said, Search, Settings, Side, Stated, Sum};
 use std::rc::Rc;
 
@@ -18,6 +18,7 @@ pub enum Value {
     Areas(Areas),
     Search(Box<Search>),
     Stated(Stated),
+    Edition(Edition),
     Chart(Chart),
     Side(Side),
     Sum(Sum),
@@ -80,10 +81,14 @@ pub static WORDS: &[Word] = &[
     }),
     ("plain", 1, |v| stated(size(&v[0]), vec![])),
     ("gapAt", 2, |v| stated(8, vec![size(&v[0]), size(&v[1])])),
-    ("Cusum.newOf", 2, |v| chart(true, v)),
-    ("Cusum.withParams", 4, |v| chart(false, v)),
-    ("Ewma.newOf", 2, |v| chart(true, v)),
-    ("Ewma.withParams", 4, |v| chart(false, v)),
+    ("Cusum.newOf", 2, |v| chart(true, v, Edition::First)),
+    ("Cusum.withParams", 4, |v| chart(false, v, Edition::First)),
+    ("First", 0, |_| Value::Edition(Edition::First)),
+    ("Second", 0, |_| Value::Edition(Edition::Second)),
+    ("Ewma.newOf", 3, |v| chart(true, &v[..2], edition(&v[2]))),
+    ("Ewma.withParams", 5, |v| {
+        chart(false, &v[..4], edition(&v[4]))
+    }),
     ("None", 0, |_| Value::Side(Side::None)),
     ("Above", 0, |_| Value::Side(Side::Above)),
     ("Below", 0, |_| Value::Side(Side::Below)),
@@ -178,6 +183,13 @@ fn searched(value: &Value) -> Search {
     match value {
         Value::Search(search) => *search.clone(),
         other => panic!("a search, and not {other:?}"),
+    }
+}
+
+fn edition(value: &Value) -> Edition {
+    match value {
+        Value::Edition(edition) => *edition,
+        other => panic!("an edition, and not {other:?}"),
     }
 }
 
@@ -341,12 +353,16 @@ const LENT_AVERAGE: EwmaResult = EwmaResult {
     index: 7,
 };
 
-fn chart(by_new: bool, v: &[Value]) -> Value {
+fn chart(by_new: bool, settings: &[Value], edition: Edition) -> Value {
     let mut values = [0.0; 4];
-    for (place, value) in values.iter_mut().zip(v) {
-        *place = float(value);
+    for (place, setting) in values.iter_mut().zip(settings) {
+        *place = float(setting);
     }
-    Value::Chart(Chart { by_new, values })
+    Value::Chart(Chart {
+        by_new,
+        values,
+        edition,
+    })
 }
 
 /// `analyze` with one record more than it needs, which stays as it was.

@@ -4,7 +4,7 @@ use crate::charts::{setting_tests, side_of, InRange};
 use crate::elementary::{powi, sqrt};
 use crate::floats::finite;
 use crate::refusals::Test;
-use cases::{Chart, EwmaResult, Side};
+use cases::{Chart, Edition, EwmaResult, Side};
 
 #[derive(Clone, Copy)]
 pub struct Ewma {
@@ -12,28 +12,30 @@ pub struct Ewma {
     sigma: f64,
     lambda: f64,
     factor: f64,
+    edition: Edition,
 }
 
-fn with_params(target: f64, sigma: f64, lambda: f64, factor: f64) -> Ewma {
+fn with_params(target: f64, sigma: f64, lambda: f64, factor: f64, edition: Edition) -> Ewma {
     Ewma {
         target,
         sigma,
         lambda,
         factor,
+        edition,
     }
 }
 
 /// `new` has the defaults lambda 0.2 and L 3.
-fn new_of(target: f64, sigma: f64) -> Ewma {
-    with_params(target, sigma, 0.2, 3.0)
+fn new_of(target: f64, sigma: f64, edition: Edition) -> Ewma {
+    with_params(target, sigma, 0.2, 3.0, edition)
 }
 
 pub fn made(chart: Chart) -> Ewma {
     let [target, sigma, lambda, factor] = chart.values;
     if chart.by_new {
-        new_of(target, sigma)
+        new_of(target, sigma, chart.edition)
     } else {
-        with_params(target, sigma, lambda, factor)
+        with_params(target, sigma, lambda, factor, chart.edition)
     }
 }
 
@@ -51,9 +53,14 @@ pub fn tests_of(c: &Ewma) -> Vec<Test> {
     setting_tests(in_range(c))
 }
 
-/// An index counts from 0, a place from 1.
-fn place_of(index: usize) -> usize {
-    index + 1
+/// The place of the reading x at an index, after the place before. First edition: the index and 1, gap or
+/// not; second: a finite reading has the next place, and a gap stays at the last.
+fn place_after(edition: Edition, before: usize, index: usize, x: f64) -> usize {
+    match edition {
+        Edition::First => index + 1,
+        Edition::Second if finite(x) => before + 1,
+        Edition::Second => before,
+    }
 }
 
 /// Half the distance of the limits at a place: L·sigma times the root of
@@ -85,9 +92,10 @@ fn averaged(c: &Ewma, before: f64, x: f64) -> f64 {
     c.lambda * x + (1.0 - c.lambda) * before
 }
 
-/// The record of the reading x after another record; a gap carries the statistic forward, without a signal.
-fn step_of(c: &Ewma, before: EwmaResult, index: usize, x: f64) -> EwmaResult {
-    let half = half_width(c, place_of(index));
+/// The record of the reading x at an index and a place, after another record; a gap carries the statistic
+/// forward, without a signal.
+fn step_of(c: &Ewma, place: usize, before: EwmaResult, index: usize, x: f64) -> EwmaResult {
+    let half = half_width(c, place);
     let ewma = averaged(c, before.ewma, x);
     if finite(x) {
         within(c, index, half, outside(c, half, ewma), ewma)
@@ -96,8 +104,11 @@ fn step_of(c: &Ewma, before: EwmaResult, index: usize, x: f64) -> EwmaResult {
     }
 }
 
-/// Before the first reading the statistic is the target.
-fn fresh(c: &Ewma) -> EwmaResult {
+/// What goes from reading to reading: the last record and its place.
+type Charted = (EwmaResult, usize);
+
+/// Before the first reading the statistic is the target, and the place is 0.
+fn blank(c: &Ewma) -> EwmaResult {
     EwmaResult {
         ewma: c.target,
         ucl: c.target,
@@ -107,12 +118,22 @@ fn fresh(c: &Ewma) -> EwmaResult {
     }
 }
 
+fn fresh(c: &Ewma) -> Charted {
+    (blank(c), 0)
+}
+
+/// The reading has its place, and then its record.
+fn next_of(c: &Ewma, (before, last): Charted, i: usize, x: f64) -> Charted {
+    let place = place_after(c.edition, last, i, x);
+    (step_of(c, place, before, i, x), place)
+}
+
 pub fn records(c: &Ewma, xs: &[f64]) -> Vec<EwmaResult> {
     let mut records = Vec::new();
-    let mut before = fresh(c);
+    let mut state = fresh(c);
     for (i, &x) in xs.iter().enumerate() {
-        before = step_of(c, before, i, x);
-        records.push(before);
+        state = next_of(c, state, i, x);
+        records.push(state.0);
     }
     records
 }
