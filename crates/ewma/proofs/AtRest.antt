@@ -29,7 +29,7 @@ use Rattle.ewma.specs.declared.EwmaResult.{EwmaResult}
 use Rattle.ewma.specs.declared.State.{State}
 use Rattle.ewma.specs.declared.Limits.{Limits}
 use Rattle.ewma.specs.Chart.{testsOf, placeAfter, halfWidth, stepOf, Charted, recordOf, fresh, nextOf, analyzed}
-use Rattle.ewma.specs.Settled.{faint, widthAt, settledFrom, settledOf, widthFrom, limitsAt, limitsAfter, stepBy, shownOf, startState, nextState, followingState, stateOf}
+use Rattle.ewma.specs.Settled.{faint, widthAt, settledFrom, settledOf, movingWidth, widthFrom, limitsAt, limitsAfter, stepBy, shownOf, startState, nextState, followingState, stateOf}
 use Rattle.ewma.proofs.Editions.{place-next, place-within}
 use Rattle.ewma.proofs.Places.{at-most-is}
 use Rattle.ewma.proofs.Fading.{Within, one, rounded-within, unit-product, squared, faded-power, no-less-than-one, one-less-faint}
@@ -153,10 +153,10 @@ even-power-faint (suc k) (suc n) place b e h l w r =
     let bit : suc n % 2 ≡ 0 = omega (arith, e) in
     rw (half, bit) (faded-power (r .squares) k place (b *ᶠ b) one (omega (arith, e, h, l)) (omega (arith, r .passed)) w (unfold le in tt) (r .faint-there))
 
--- the width that is kept once the limits have settled is the place's own, at any place that a chart reaches, 0 included
-pub width-settles : (c : Ewma) (place : Place) → place .0 < 8192 → widthFrom c (settledOf c) place ≡ halfWidth c place
-unfolding widthFrom settledOf halfWidth widthAt powi ofInt
-width-settles c place high = by-place (leb (settledFrom 13 1 (kept *ᶠ kept)) (place .0)) refl
+-- the width that is kept once the limits have settled, or while the place stays, is the place's own: at any place that a chart reaches, 0 included, from any other
+pub width-settles : (c : Ewma) (last place : Place) → place .0 < 8192 → widthFrom c (limitsAt c last) place ≡ halfWidth c place
+unfolding widthFrom movingWidth settledOf halfWidth widthAt powi ofInt
+width-settles c last place high = by-place (leb (settledFrom 13 1 (kept *ᶠ kept)) (place .0)) refl
   where
     kept : Float
     kept = one -ᶠ c .lambda
@@ -175,22 +175,21 @@ width-settles c place high = by-place (leb (settledFrom 13 1 (kept *ᶠ kept)) (
         too-far : 8192 ≤ place .0 → ⊥
         too-far h = omega (arith, h, high)
 
-    by-place : (t : Bool) → leb (settledFrom 13 1 (kept *ᶠ kept)) (place .0) ≡ t → cond t (widthAt c one) (halfWidth c place) ≡ halfWidth c place
+    by-place : (t : Bool) → leb (settledFrom 13 1 (kept *ᶠ kept)) (place .0) ≡ t → cond t (widthAt c one) (movingWidth c (limitsAt c last) place) ≡ halfWidth c place
     by-place true e = from-there (kept *ᶠ kept <ᶠ one) refl (leb-true (settledFrom 13 1 (kept *ᶠ kept)) (place .0) e)
-    by-place false e = refl
+    by-place false e = stays (eqb (place .0) (last .0)) refl
+      where
+        stays : (b : Bool) → eqb (place .0) (last .0) ≡ b → cond b (halfWidth c last) (halfWidth c place) ≡ halfWidth c place
+        stays true q = ap (λ (n : ℕ). halfWidth c (record { 0 = n })) (sym (eqb-true (place .0) (last .0) q))
+        stays false q = refl
 
 -- ---- a run
 -- a chart that stands at a place comes to stand at the next with that one's limits
 limits-move : (c : Ewma) (place : Place) (i : ℕ) (x : Float) → place .0 ≤ i → i < 4096 → limitsAfter c (limitsAt c place) i x ≡ limitsAt c (placeAfter (c .edition) place (record { 0 = i }) x)
-unfolding limitsAfter
-limits-move c place i x low high = rw (at-most-is (place .0) i low) (ap (λ (half : Float). record { place = there; «half_width» = half; settled = settledOf c }) (by-place (eqb (there .0) (place .0)) refl))
-  where
-    there : Place
-    there = placeAfter (c .edition) place (record { 0 = i }) x
-
-    by-place : (b : Bool) → eqb (there .0) (place .0) ≡ b → cond b (halfWidth c place) (widthFrom c (settledOf c) there) ≡ halfWidth c there
-    by-place true e = ap (λ (n : ℕ). halfWidth c (record { 0 = n })) (sym (eqb-true (there .0) (place .0) e))
-    by-place false e = width-settles c there (omega (arith, high, place-next (c .edition) place (record { 0 = i }) x low))
+limits-move c place i x low high =
+    rw (at-most-is (place .0) i low)
+    (ap (λ (half : Float). record { place = placeAfter (c .edition) place (record { 0 = i }) x; «half_width» = half; settled = settledOf c })
+    (width-settles c place (placeAfter (c .edition) place (record { 0 = i }) x) (omega (arith, high, place-next (c .edition) place (record { 0 = i }) x low))))
 
 -- a state that stands for a record and its place moves on as the chart does
 module _ (c : Ewma) (s : Charted) (i : ℕ) (low : s .1 .0 ≤ i) (high : i < 4096) where

@@ -1,16 +1,15 @@
 -- The place that the step takes: never past the index and 1, whatever the state, and the definition's own where no more readings had a place than there were. Assumes nothing.
-use mathlib.Core.Path.{_≡_, refl, sym, subst}
+use mathlib.Core.Path.{_≡_, refl}
 use Prim.Native.Nat.{ℕ, suc, _≤_}
 use native.Mathlib.Nat.{le-antisymm}
 use native.Mathlib.Omega.{arith}
 use mathlib.Core.Bool.{Bool, true, false, cond}
-use borrow.Author.Tests.{ltb-true, ltb-false, eq-eqb, ne-eqb}
+use borrow.Author.Tests.{ltb-true, ltb-false}
 use lib.Dec.{ltb}
 use lib.Ieee.{Float}
 use Rattle.charts.specs.declared.Place.{Place}
 use Rattle.ewma.specs.declared.Ewma.{Ewma}
-use Rattle.ewma.specs.declared.Limits.{Limits}
-use Rattle.ewma.specs.Settled.{widthFrom, atMost, placeFrom, limitsAfter}
+use Rattle.ewma.specs.Settled.{atMost, placeFrom}
 use Rattle.ewma.proofs.Editions.{place-next}
 
 pub at-most-index : (p i : ℕ) → atMost p i ≤ i
@@ -29,13 +28,3 @@ at-most-is p i h = go (ltb p i) refl
     go : (b : Bool) → ltb p i ≡ b → cond b p i ≡ p
     go true e = refl
     go false e = le-antisymm (ltb-false p i e) h
-
--- ---- where a chart stands after a reading: the width is kept where the place stays, and is the place's own where it moves
-module _ (c : Ewma) (l : Limits) (i : ℕ) (x : Float) (place : Place) (e : place ≡ placeFrom c (l .place) i x) where
-  pub width-kept : place .0 ≡ l .place .0 → record { place = place; «half_width» = l .«half_width»; settled = l .settled } ≡ limitsAfter c l i x
-  unfolding limitsAfter
-  width-kept = subst (λ (p : Place). p .0 ≡ l .place .0 → record { place = p; «half_width» = l .«half_width»; settled = l .settled } ≡ limitsAfter c l i x) (sym e) (λ q. rw (limitsAfter, eq-eqb (placeFrom c (l .place) i x .0) (l .place .0) q))
-
-  pub width-moves : (place .0 ≡ l .place .0 → ⊥) → record { place = place; «half_width» = widthFrom c (l .settled) place; settled = l .settled } ≡ limitsAfter c l i x
-  unfolding limitsAfter
-  width-moves = subst (λ (p : Place). (p .0 ≡ l .place .0 → ⊥) → record { place = p; «half_width» = widthFrom c (l .settled) p; settled = l .settled } ≡ limitsAfter c l i x) (sym e) (λ q. rw (limitsAfter, ne-eqb (placeFrom c (l .place) i x .0) (l .place .0) q))

@@ -36,9 +36,12 @@ settledFrom (suc k) place decay = elim (decay ≤ᶠ faint) [ true ↦ place | f
 unfoldable pub settledOf : Ewma → Settled
 settledOf c = let kept = ofWhole 1 -ᶠ c .lambda in record { from = settledFrom 13 1 (kept *ᶠ kept); «half_width» = widthAt c (ofWhole 1) }
 
--- the width at a place: the one at rest where the limits have settled, and before that the place's own
-unfoldable pub widthFrom : Ewma → Settled → Place → Float
-widthFrom c w place = cond (leb (w .from) (place .0)) (w .«half_width») (halfWidth c place)
+-- the width at a place of a chart that stood at `l`: the one at rest where the limits have settled; before that the same at the same place, and the place's own at another
+unfoldable pub movingWidth : Ewma → Limits → Place → Float
+movingWidth c l place = cond (eqb (place .0) (l .place .0)) (l .«half_width») (halfWidth c place)
+
+unfoldable pub widthFrom : Ewma → Limits → Place → Float
+widthFrom c l place = cond (leb (l .settled .from) (place .0)) (l .settled .«half_width») (movingWidth c l place)
 
 -- `stepOf` with a given width
 unfoldable pub stepBy : Ewma → Float → EwmaResult → Observation → Float → EwmaResult
@@ -57,11 +60,9 @@ placeFrom c last i x = placeAfter (c .edition) (record { 0 = atMost (last .0) i 
 abbrev pub limitsAt : Ewma → Place → Limits
 limitsAt c place = record { place = place; «half_width» = halfWidth c place; settled = settledOf c }
 
--- where it stands after the reading `x` at `i`: at the same place the width stays
-unfoldable pub limitsAfter : Ewma → Limits → ℕ → Float → Limits
-limitsAfter c l i x =
-    let place = placeFrom c (l .place) i x in
-    record { place = place; «half_width» = cond (eqb (place .0) (l .place .0)) (l .«half_width») (widthFrom c (l .settled) place); settled = l .settled }
+-- where it stands after the reading `x` at `i`
+abbrev pub limitsAfter : Ewma → Limits → ℕ → Float → Limits
+limitsAfter c l i x = let place = placeFrom c (l .place) i x in record { place = place; «half_width» = widthFrom c l place; settled = l .settled }
 
 -- the states of a run with those widths, which carry them along, and the record that a state shows
 abbrev pub shownOf : State → EwmaResult

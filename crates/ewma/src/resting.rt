@@ -3,7 +3,7 @@
 // later places the limits are the same to the bit. `proofs/AtRest` has the law.
 ghost use mathlib.Core.Path.{_≡_};
 ghost use Prim.Native.Nat.{_≤_, _<_, _^_};
-ghost use Rattle.ewma.specs.Settled.{widthAt, settledFrom, widthFrom, atMost, placeFrom, limitsAt, limitsAfter};
+ghost use Rattle.ewma.specs.Settled.{widthAt, settledFrom, movingWidth, widthFrom, atMost, placeFrom, limitsAt, limitsAfter};
 use crate::Edition;
 use crate::Ewma;
 use crate::Limits;
@@ -40,17 +40,31 @@ pub(crate) fn settled_from(decay: f64) -> usize
     place
 }
 
-// How far the limits lie from the target at `place`: what `settled` says where they have settled, and
-// before that by a power. Cost: one turn for each binary digit of `place`.
-pub(crate) fn width_from(chart: Ewma, settled: Settled, place: Place) -> f64
+// How far the limits lie from the target at `place`, where they have not settled: as far as at the last
+// reading, of which `limits` speaks, if that had the same place, as at a gap of the second edition; and
+// else by a power. Cost: one turn for each binary digit of `place`.
+fn moving_width(chart: Ewma, limits: Limits, place: Place) -> f64
     requires { ⌜ place .0 ≤ 2 ^ 62 ⌝ }
-    ensures { λ r. ⌜ r ≡ widthFrom chart settled place ⌝ }
+    ensures { λ r. ⌜ r ≡ movingWidth chart limits place ⌝ }
 {
-    if settled.from <= place.0 {
-        return settled.half_width;
+    let last = limits.place;
+    if place.0 == last.0 {
+        return limits.half_width;
     }
     let decay = elementary::powi(1.0 - chart.lambda, (2 * place.0) as u64);
     width_at(chart, 1.0 - decay)
+}
+
+// How far the limits lie from the target at `place`, of a chart that stood at `limits` before.
+fn width_from(chart: Ewma, limits: Limits, place: Place) -> f64
+    requires { ⌜ place .0 ≤ 2 ^ 62 ⌝ }
+    ensures { λ r. ⌜ r ≡ widthFrom chart limits place ⌝ }
+{
+    let settled = limits.settled;
+    if settled.from <= place.0 {
+        return settled.half_width;
+    }
+    moving_width(chart, limits, place)
 }
 
 // Where `chart` stands before the first reading: at place 0, whose decay is 1. Cost: at most 13 squares,
@@ -96,20 +110,14 @@ fn place_from(chart: Ewma, last: Place, index: usize, x: f64) -> Place
     }
 }
 
-// Where `chart` stands after the reading `x` at `index`, from where it stood before, `limits`. Where the
-// place stays, as at a gap of the second edition, the width does.
+// Where `chart` stands after the reading `x` at `index`, from where it stood before, `limits`.
 pub(crate) fn limits_after(chart: Ewma, limits: Limits, index: usize, x: f64) -> Limits
     requires { ⌜ index < 2 ^ 61 ⌝ }
     ensures { λ r. ⌜ r ≡ limitsAfter chart limits index x ⌝ }
 {
-    let last = limits.place;
+    let place = place_from(chart, limits.place, index, x);
+    let half_width = width_from(chart, limits, place);
     let settled = limits.settled;
-    let place = place_from(chart, last, index, x);
-    let half_width = if place.0 == last.0 {
-        limits.half_width
-    } else {
-        width_from(chart, settled, place)
-    };
     Limits {
         place,
         half_width,
