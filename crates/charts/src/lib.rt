@@ -24,7 +24,8 @@ use refusals::Refusal;
 // The index of an observation in its series, from 0.
 pub struct Observation(pub usize);
 
-// The place of an observation on its chart, from 1.
+// The place of an observation on its chart, from 1; 0 where nothing was measured yet and the chart counts
+// finite readings only.
 pub struct Place(pub usize);
 
 // On which side of a chart a reading signals.

@@ -84,7 +84,7 @@ full-next : (e : Edition) (before : Place) (n : ℕ) (x : Float) → finite x �
 full-next First before n x t h = refl
 full-next Second before n x t h = rw t (ap (λ (k : ℕ). record { 0 = suc k }) h)
 
-pub full-place : (c : Ewma) (xs : List Float) (n : ℕ) → Gapless xs n → placeAt c xs n .0 ≡ n
+full-place : (c : Ewma) (xs : List Float) (n : ℕ) → Gapless xs n → placeAt c xs n .0 ≡ n
 full-place c xs zero g = refl
 full-place c xs (suc n) g = ap (λ (p : Place). p .0) (full-next (c .edition) (placeAt c xs n) n (at xs n) (g n (omega arith)) (full-place c xs n (λ i h. g i (omega (arith, h)))))
 

@@ -52,7 +52,7 @@ pub struct Settled {
 }
 
 // Where a chart stands: at the place `place`, the last reading's, its limits lie `half_width` from the
-// target.
+// target; and `settled` says where they settle.
 pub struct Limits {
     pub place: Place,
     pub half_width: f64,
