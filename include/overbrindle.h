@@ -15,8 +15,8 @@
  *
  * - A slice is a pointer and the number of its elements. The pointer is never null and is aligned,
  *   also where there are no elements; the elements are initialised. A pointer to a single result
- *   (count, channel, index, reading, length, mean, spread) is never null, is aligned and points to one
- *   object of its type; what that held before is not read. Slices and single results that a call
+ *   (count, channel, index, reading, length, mean, has_spread, spread) is never null, is aligned and
+ *   points to one object of its type; what that held before is not read. Slices and single results that a call
  *   writes to overlap nothing else that it is given.
  * - The floating-point environment is the one that C starts a program with: rounding to nearest, no
  *   flush-to-zero, no denormals-are-zero. Another gives other answers: with flush-to-zero
@@ -130,11 +130,15 @@ uint32_t overbrindle_detect_multi_strict(uint32_t cost, uint32_t penalty_kind, d
     double *floats, size_t floats_len, size_t *indices, size_t indices_len,
     double *pool, size_t pool_len, size_t *count, size_t *channel, size_t *index);
 
-/* The number of readings of a channel from start up to end, without end, their mean and their spread
- * (the mean square about the mean). NaN and infinities are taken as they are. The spread can be
- * negative: rounding can bring that of nearly equal readings a little below 0. */
+/* The number of readings of a channel from start up to end, without end, their mean and their spread.
+ * NaN and infinities are taken as they are.
+ * The spread is the variance: the sum of the squares about the mean, or 0 where rounding brought that
+ * below 0, divided by length - 1. So it is at or above 0, or NaN. A single reading has none: *has_spread
+ * is 1 where there is a spread, and else 0, with 0 in *spread, as on a refusal.
+ * Before request 5 landed the spread was divided by length, could be below 0, and was there of one reading
+ * too; a call without has_spread does not compile. */
 uint32_t overbrindle_piece_summary(const double *channel, size_t channel_len,
-    size_t start, size_t end, size_t *length, double *mean, double *spread);
+    size_t start, size_t end, size_t *length, double *mean, uint32_t *has_spread, double *spread);
 
 /* The records of a chart over n readings, one array a field; index counts from 0. Each array needs n
  * elements; those past n are left. *count is n.

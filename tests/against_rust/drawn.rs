@@ -33,7 +33,7 @@ const STORED_SHARES: [usize; 18] = [
     2_000, 6_000, 492, 62,
 ];
 
-const DRAWN: [(&str, usize, Drawn); 14] = [
+const DRAWN: [(&str, usize, Drawn); 15] = [
     ("about every limit", 120_000, about_limits),
     ("about 4,096 readings", 260, about_longest),
     (
@@ -63,6 +63,7 @@ const DRAWN: [(&str, usize, Drawn); 14] = [
     ("run lengths", 20_000, run_lengths),
     ("noise variances", 30_000, noises),
     ("pieces", 60_000, all_pieces),
+    ("pieces of nearly equal readings", 20_000, nearly_equal),
     ("pieces about 4,096 readings", 600, longest_pieces),
 ];
 
@@ -407,6 +408,13 @@ fn noises(random: &mut Random) -> Vec<Case> {
 
 fn all_pieces(random: &mut Random) -> Vec<Case> {
     pieces::pieces(random)
+        .into_iter()
+        .map(Case::Piece)
+        .collect()
+}
+
+fn nearly_equal(random: &mut Random) -> Vec<Case> {
+    pieces::nearly_equal(random)
         .into_iter()
         .map(Case::Piece)
         .collect()

@@ -6,7 +6,7 @@
 #[derive(Clone, Copy, Default)]
 pub struct Fault(Option<&'static str>);
 
-pub const FAULTS: [&str; 64] = [
+pub const FAULTS: [&str; 71] = [
     "search number",
     "search count",
     "search place",
@@ -65,7 +65,14 @@ pub const FAULTS: [&str; 64] = [
     "piece number",
     "piece length",
     "piece mean",
+    "piece has a spread",
     "piece spread",
+    "a spread by the length",
+    "a spread of one reading",
+    "a cost below 0 kept",
+    "a NaN cost is 0",
+    "a NaN spread is none",
+    "a root of the spread",
     "noise",
     "noise area",
     "noise beyond",

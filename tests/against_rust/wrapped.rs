@@ -9,6 +9,7 @@ use crate::in_place;
 use crate::pieces::Piece;
 use crate::rules::pattern;
 use crate::series::Settings;
+use crate::summaries::Told;
 use overbrindle::{
     CostFunction, Cusum, CusumResult, Edition, Ewma, EwmaResult, MultiPeltResult, Pelt, PeltResult,
     Penalty, PieceSummary, Refusal, Side, Sum,
@@ -257,13 +258,13 @@ pub fn run_length(asked: &RunLength, (number, reading): (u32, usize)) -> Result<
     same("run_length", found.map_err(told), due)
 }
 
-/// The number of the refusal, or 0; length, mean and spread.
-pub fn piece(piece: &Piece, due: (u32, usize, u64, u64)) -> Result<(), String> {
+pub fn piece(piece: &Piece, due: Told) -> Result<(), String> {
     let found = overbrindle::piece_summary(&piece.readings, piece.start, piece.end);
-    let fields = |s: PieceSummary| (s.length, pattern(s.mean), pattern(s.spread));
-    let due = match due {
-        (0, length, mean, spread) => Ok((length, mean, spread)),
-        (number, ..) => Err(refused(number, (0, 0))),
+    let fields = |s: PieceSummary| (s.length, pattern(s.mean), s.spread.map(pattern));
+    let spread = (due.has_spread == 1).then_some(due.spread);
+    let due = match due.number {
+        0 => Ok((due.length, due.mean, spread)),
+        number => Err(refused(number, (0, 0))),
     };
     same("piece_summary", found.map(fields).map_err(told), due)
 }

@@ -6,6 +6,7 @@ mod elementary;
 #[allow(dead_code)]
 #[path = "../vectors/inputs.rs"]
 mod inputs;
+mod pieces;
 mod searches;
 #[allow(dead_code)]
 #[path = "../vectors/series.rs"]
@@ -25,6 +26,13 @@ fn head(unit: &str) {
     println!("| | ours, {unit} | the Rust's, {unit} | ratio |\n|---|---|---|---|");
 }
 
+/// Rows of calls that take too little to be printed one by one.
+fn thousandfold(rows: Vec<Row>) {
+    rows.iter()
+        .map(|row| Row::new(&row.name, row.ours * 1e3, row.theirs * 1e3))
+        .for_each(|row| row.print());
+}
+
 /// Charts, and noise variances, of many readings and of few, and of other kinds of series.
 fn print_charts(best: Best, random: &mut Random) {
     println!("\nCharts, and the noise variance of BIC, {N} readings:\n");
@@ -33,10 +41,7 @@ fn print_charts(best: Best, random: &mut Random) {
     rows.iter().for_each(Row::print);
     println!("\nThe same of {SHORT} readings, a thousand calls:\n");
     head("µs");
-    charts::rows(best, &charts::drifting(random, SHORT))
-        .iter()
-        .map(|row| Row::new(&row.name, row.ours * 1e3, row.theirs * 1e3))
-        .for_each(|row| row.print());
+    thousandfold(charts::rows(best, &charts::drifting(random, SHORT)));
     println!("\nThe same of {N} rounded readings about levels that change at every 16th:\n");
     head("µs");
     let rows = charts::rows(best, &charts::stepped(random, N));
@@ -65,6 +70,26 @@ fn print_editions(best: Best, random: &mut Random) {
     }
 }
 
+/// Summaries of pieces, of the same kinds of channels.
+fn print_pieces(best: Best, random: &mut Random) {
+    let tables = [
+        (format!("{N} readings"), charts::drifting(random, N)),
+        (
+            format!("{N} rounded readings about levels that change at every 16th"),
+            charts::stepped(random, N),
+        ),
+        (format!("{N} equal readings"), charts::flat(N)),
+    ];
+    for (what, channel) in tables {
+        println!("\nPiece summaries in a channel of {what}, beside a plain twin in Rust:\n");
+        head("µs");
+        pieces::rows(best, &channel).iter().for_each(Row::print);
+    }
+    println!("\nThe same of {SHORT} readings, a thousand calls:\n");
+    head("µs");
+    thousandfold(pieces::rows(best, &charts::drifting(random, SHORT)));
+}
+
 fn main() {
     let words: Vec<String> = std::env::args().skip(1).collect();
     let rounds = words
@@ -75,8 +100,10 @@ fn main() {
         enough: Duration::from_secs(2),
     };
     let mut random = Random::new();
-    if words.get(1).is_some_and(|word| word == "charts") {
-        return print_charts(best, &mut random);
+    match words.get(1).map(String::as_str) {
+        Some("charts") => return print_charts(best, &mut random),
+        Some("pieces") => return print_pieces(best, &mut random),
+        word => assert_eq!(word, None, "charts, pieces or nothing"),
     }
     println!("Searches by BIC, {N} readings a channel, minimum length 2:\n");
     head("µs");
@@ -89,6 +116,7 @@ fn main() {
     }
     searches::package(best, &mut random, N).print();
     print_charts(best, &mut random);
+    print_pieces(best, &mut random);
     println!("\nElementary functions, a thousand calls:\n");
     head("µs");
     elementary::rows(best, &mut random)

@@ -7,9 +7,9 @@
 //!
 //! `s`, a piece: its mean, its spread, its L2 cost and its Normal cost. Then the channel: the number of
 //! readings in 2 bytes, 8 bytes for each, and a byte that is 0, or 12 where the piece is refused and
-//! the values are 0. Then 28 bytes: start and end, 2 bytes each, and the channel's mean and range about
-//! it, in which a zero has no sign. Then 32 bytes: the running sums at start and end, and those of the
-//! squares.
+//! the values are 0. Then 29 bytes: start and end, 2 bytes each, the channel's mean and range about
+//! it, in which a zero has no sign, and a byte that is 1 where the piece has a spread, or 0 where it has
+//! none and that value is 0. Then 32 bytes: the running sums at start and end, and those of the squares.
 //!
 //! `q`, a penalty: a custom value, the sum of the noise variances, and the penalty by BIC for L2 and for
 //! Normal. Then 12 bytes: n and the channels, 2 bytes each, and the custom penalty.
@@ -36,6 +36,7 @@ use inputs::Random;
 use pelt_opened::{CostFunction, Penalty};
 use pieces::{Piece, PIECE};
 use runs::Run;
+use std::collections::BTreeMap;
 use std::io::{self, BufWriter, Write};
 
 fn write_values(out: &mut impl Write, values: &[f64]) -> io::Result<()> {
@@ -69,9 +70,11 @@ fn write_piece(out: &mut impl Write, piece: &Piece) -> io::Result<()> {
     let (lo, hi) = pelt_opened::opened_range(readings);
     let (mut values, mut running) = ([0.0; 4], [0.0; 4]);
     let summary = piece.summary();
+    let spread = summary.as_ref().and_then(|summary| summary.spread);
     if let Some(summary) = &summary {
         let (l2, length) = (summary.l2, summary.length as f64);
-        values = [summary.mean, summary.spread, l2, normal_cost(l2, length)];
+        let spread = spread.unwrap_or(0.0);
+        values = [summary.mean, spread, l2, normal_cost(l2, length)];
         running = [sums[start], sums[end], squares[start], squares[end]];
     }
     out.write_all(b"s")?;
@@ -82,15 +85,27 @@ fn write_piece(out: &mut impl Write, piece: &Piece) -> io::Result<()> {
     write_short(out, start)?;
     write_short(out, end)?;
     write_values(out, &[mean + 0.0, lo + 0.0, hi + 0.0])?;
+    out.write_all(&[u8::from(spread.is_some())])?;
     write_values(out, &running)
 }
 
-fn write_pieces(out: &mut impl Write, random: &mut Random) -> io::Result<usize> {
-    let pieces = pieces::pieces(random);
-    for piece in &pieces {
-        write_piece(out, piece)?;
+fn write_pieces(out: &mut impl Write, pieces: &[Piece]) -> io::Result<()> {
+    pieces.iter().try_for_each(|piece| write_piece(out, piece))
+}
+
+/// How many pieces are refused, and how many have a spread of each sort.
+fn say_pieces<'a>(pieces: impl Iterator<Item = &'a Piece>) {
+    let mut sorts: BTreeMap<&str, usize> = BTreeMap::new();
+    for piece in pieces {
+        let summary = piece.summary();
+        let sort = summary.map_or("refused", |summary| summary.sort());
+        *sorts.entry(sort).or_default() += 1;
     }
-    Ok(pieces.len())
+    let sorts: Vec<String> = sorts
+        .iter()
+        .map(|(sort, n)| format!("{n} {sort}"))
+        .collect();
+    eprintln!("of the pieces {}", sorts.join(", "));
 }
 
 /// The penalties by BIC for L2 and for Normal, with this logarithm of n.
@@ -200,14 +215,19 @@ fn write_runs(out: &mut impl Write, random: &mut Random) -> io::Result<Vec<Run>>
 fn main() -> io::Result<()> {
     let mut out = BufWriter::new(io::stdout().lock());
     let mut random = Random::new();
-    let pieces = write_pieces(&mut out, &mut random)?;
+    let pieces = pieces::pieces(&mut random);
+    write_pieces(&mut out, &pieces)?;
     let penalties = write_penalties(&mut out, &mut random)?;
     let runs = write_runs(&mut out, &mut random)?;
+    let nearly_equal = pieces::nearly_equal(&mut random);
+    write_pieces(&mut out, &nearly_equal)?;
     out.write_all(&[&b"e"[..], &[0; 32]].concat())?;
     let channels: usize = runs.iter().map(|run| run.channels.len()).sum();
     let segments: usize = runs.iter().map(|run| run.segments.len()).sum();
     let runs = runs.len();
-    eprintln!("{pieces} pieces, {penalties} penalties");
+    let all = pieces.len() + nearly_equal.len();
+    eprintln!("{all} pieces, {penalties} penalties");
+    say_pieces(pieces.iter().chain(&nearly_equal));
     eprintln!("{runs} runs, {channels} channels, {segments} segments");
     out.flush()
 }

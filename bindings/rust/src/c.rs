@@ -54,6 +54,7 @@ unsafe extern "C" {
         end: usize,
         length: &mut usize,
         mean: &mut f64,
+        has_spread: &mut u32,
         spread: &mut f64,
     ) -> u32;
     pub fn overbrindle_noise_variance(

@@ -22,7 +22,6 @@
 //! ```
 
 use crate::c;
-use crate::PieceSummary;
 
 /// The floats of the pool in which one candidate of a search lives.
 pub const SLOT: usize = 200;
@@ -30,6 +29,7 @@ pub const SLOT: usize = 200;
 /// What a single result holds until it is written: a number that no answer has, so that one that is not
 /// written shows.
 const UNWRITTEN: usize = usize::MAX;
+const UNWRITTEN_FLAG: u32 = u32::MAX;
 const UNWRITTEN_FLOAT: f64 = -1e300;
 
 /// Calls a function of the library: with numbers; slices that it reads; areas that it may write to; and
@@ -132,18 +132,36 @@ pub fn detect(
     }
 }
 
-/// The number of the refusal, or 0, and the summary of the readings from start up to end, without end.
-pub fn piece_summary(channel: &[f64], start: usize, end: usize) -> (u32, PieceSummary) {
-    let mut summary = PieceSummary {
-        length: UNWRITTEN,
-        mean: UNWRITTEN_FLOAT,
-        spread: UNWRITTEN_FLOAT,
-    };
+/// What the summary of a piece says.
+#[derive(Clone, Copy, Debug, PartialEq)]
+pub struct SaidPiece {
+    /// The number of the refusal, or 0.
+    pub number: u32,
+    /// How many readings there are, 0 on a refusal.
+    pub length: usize,
+    /// Their mean, 0 on a refusal.
+    pub mean: f64,
+    /// 1 where there is a spread, else 0: of a single reading and on a refusal.
+    pub has_spread: u32,
+    /// The spread, 0 where there is none.
+    pub spread: f64,
+}
+
+/// The summary of the readings from start up to end, without end.
+pub fn piece_summary(channel: &[f64], start: usize, end: usize) -> SaidPiece {
+    let [mut mean, mut spread] = [UNWRITTEN_FLOAT; 2];
+    let (mut length, mut has_spread) = (UNWRITTEN, UNWRITTEN_FLAG);
     let number = call!(
         c::overbrindle_piece_summary; ; channel; ;
-        start, end, &mut summary.length, &mut summary.mean, &mut summary.spread
+        start, end, &mut length, &mut mean, &mut has_spread, &mut spread
     );
-    (number, summary)
+    SaidPiece {
+        number,
+        length,
+        mean,
+        has_spread,
+        spread,
+    }
 }
 
 /// The noise variance of a channel, worked out in the elements of the area from this place on, one fewer

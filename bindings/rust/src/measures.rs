@@ -9,8 +9,9 @@ pub struct PieceSummary {
     pub length: usize,
     /// Their mean.
     pub mean: f64,
-    /// Their mean square about the mean. Rounding can bring that of nearly equal readings a little below 0.
-    pub spread: f64,
+    /// Their variance: the sum of their squares about their mean, divided by one less than there are. It is at or
+    /// above 0, or NaN, as where a reading of the channel is. A single reading has none.
+    pub spread: Option<f64>,
 }
 
 /// The summary of the readings of a channel from `start` up to `end`, without `end`. A channel of more than
@@ -21,15 +22,21 @@ pub struct PieceSummary {
 /// use overbrindle::{piece_summary, PieceSummary, Refusal};
 ///
 /// let channel = [0.0, 0.0, 4.0, 4.0];
-/// let all = PieceSummary { length: 4, mean: 2.0, spread: 4.0 };
+/// let all = PieceSummary { length: 4, mean: 2.0, spread: Some(5.333333333333333) };
+/// let one = PieceSummary { length: 1, mean: 4.0, spread: None };
 /// assert_eq!(piece_summary(&channel, 0, 4), Ok(all));
+/// assert_eq!(piece_summary(&channel, 2, 3), Ok(one));
 /// assert_eq!(piece_summary(&channel, 2, 5), Err(Refusal::Piece));
 /// ```
 pub fn piece_summary(channel: &[f64], start: usize, end: usize) -> Result<PieceSummary, Refusal> {
-    let (number, summary) = lent::piece_summary(channel, start, end);
-    match number {
-        0 => Ok(summary),
-        _ => Err(Refusal::of(number, 0, 0)),
+    let said = lent::piece_summary(channel, start, end);
+    match said.number {
+        0 => Ok(PieceSummary {
+            length: said.length,
+            mean: said.mean,
+            spread: (said.has_spread == 1).then_some(said.spread),
+        }),
+        number => Err(Refusal::of(number, 0, 0)),
     }
 }
 

@@ -1,2 +1,3 @@
 pub mod ReadBack
 pub mod TellLaws
+pub mod SpreadPromise

@@ -15,10 +15,13 @@ use Rattle.cusum.specs.declared.Cusum.{Cusum}
 use Rattle.charts.specs.declared.Sum.{Sum}
 use Rattle.charts.specs.declared.Sum.the-variants.{Upper, Lower}
 use Rattle.cusum.specs.RunLength.{runLength}
+use Rattle.piece.specs.declared.Spread.{Spread}
+use Rattle.piece.specs.declared.Spread.the-variants as Spread
 use Rattle.piece.specs.declared.Summarised.{Summarised}
 use Rattle.piece.specs.declared.Summarised.the-variants as Summarised
 use Rattle.c_answers.specs.declared.Told.{Told}
 use Rattle.c_answers.specs.declared.Counted.{Counted}
+use Rattle.c_answers.specs.declared.ToldSpread.{ToldSpread}
 use Rattle.c_answers.specs.declared.ToldPiece.{ToldPiece}
 
 -- the parts of an answer, as a call hands them back one by one
@@ -41,13 +44,18 @@ abbrev pub countedOf : Said → Counted
 countedOf s = briefly (toldOf s)
 
 -- the parts of a piece's summary
-abbrev pub pieceAs : ℕ → ℕ → Float → Float → ToldPiece
-pieceAs number size mean spread = record { number = number; length = size; mean = mean; spread = spread }
+abbrev pub pieceAs : ℕ → ℕ → Float → ℕ → Float → ToldPiece
+pieceAs number size mean has spread = record { number = number; length = size; mean = mean; «has_spread» = has; spread = spread }
+
+-- 1 and the spread, or 0 and +0 where there is none
+unfoldable pub spreadTold : Spread → ToldSpread
+spreadTold Spread.Absent = record { has = 0; value = +0 }
+spreadTold (Spread.Of x) = record { has = 1; value = x }
 
 -- the values of a summary, or the refusal's number with zeros
 unfoldable pub pieceOf : Summarised → ToldPiece
-pieceOf (Summarised.Piece p) = pieceAs 0 (p .length) (p .mean) (p .spread)
-pieceOf (Summarised.Refused r) = pieceAs (stated r .number) 0 +0 +0
+pieceOf (Summarised.Piece p) = let told = spreadTold (p .spread) in pieceAs 0 (p .length) (p .mean) (told .has) (told .value)
+pieceOf (Summarised.Refused r) = pieceAs (stated r .number) 0 +0 0 +0
 
 -- the sum that the number `asked` stands for: 0 is the upper, 1 the lower
 unfoldable pub askedSum : ℕ → Sum

@@ -10,8 +10,9 @@ ghost use mathlib.Core.List.{[], _∷_};
 ghost use Rattle.refusals.specs.Stated.{stated};
 ghost use Rattle.refusals.specs.Said.{answered, refusing, said};
 ghost use Rattle.charts.specs.Hearing.{heardAs};
-ghost use Rattle.c_answers.specs.Told.{toldOf, briefly, countedOf, pieceOf};
+ghost use Rattle.c_answers.specs.Told.{toldOf, briefly, countedOf, spreadTold, pieceOf};
 use charts::Heard;
+use piece::Spread;
 use piece::Summarised;
 use refusals::Answer;
 use refusals::Refusal;
@@ -32,11 +33,19 @@ pub struct Counted {
     pub count: usize,
 }
 
-// A piece's summary: `number` is 0 or the refusal's, and the others are the summary's values.
+// A piece's spread: `has` is 1, and `value` the spread; or both are 0 where there is none.
+struct ToldSpread {
+    has: u32,
+    value: f64,
+}
+
+// A piece's summary: `number` is 0 or the refusal's, and the others are the summary's values. Where there
+// is no spread `has_spread` is 0, and else 1.
 pub struct ToldPiece {
     pub number: u32,
     pub length: usize,
     pub mean: f64,
+    pub has_spread: u32,
     pub spread: f64,
 }
 
@@ -104,21 +113,37 @@ pub(crate) fn heard(answer: Heard) -> Counted
     }
 }
 
+// What is told of `spread`: that there is one and its value, or that there is none.
+fn spread_told(spread: Spread) -> ToldSpread
+    ensures { λ r. ⌜ r ≡ spreadTold spread ⌝ }
+{
+    match spread {
+        Spread::Absent => ToldSpread { has: 0, value: 0.0 },
+        Spread::Of(value) => ToldSpread { has: 1, value },
+    }
+}
+
 // What is told of `answer`: the summary's values, or the refusal's number with zeros.
 pub fn piece(answer: Summarised) -> ToldPiece
     ensures { λ r. ⌜ r ≡ pieceOf answer ⌝ }
 {
     match answer {
-        Summarised::Piece(summary) => ToldPiece {
-            number: 0,
-            length: summary.length,
-            mean: summary.mean,
-            spread: summary.spread,
-        },
+        Summarised::Piece(summary) => {
+            let spread = summary.spread;
+            let told = spread_told(spread);
+            ToldPiece {
+                number: 0,
+                length: summary.length,
+                mean: summary.mean,
+                has_spread: told.has,
+                spread: told.value,
+            }
+        }
         Summarised::Refused(refusal) => ToldPiece {
             number: number_of(refusal),
             length: 0,
             mean: 0.0,
+            has_spread: 0,
             spread: 0.0,
         },
     }

@@ -124,8 +124,8 @@ pub extern "C" fn overbrindle_detect_multi_strict(
     told.number
 }
 
-// The piece `channel[start..end]`: how many readings it has in `readings`, their mean in `mean` and
-// their spread in `spread`; zeros on a refusal.
+// The piece `channel[start..end]`: how many readings it has in `readings`, their mean in `mean`, and their
+// spread in `spread`, with 1 in `has_spread`, or 0 in both where there is none; zeros on a refusal.
 #[no_mangle]
 pub extern "C" fn overbrindle_piece_summary(
     channel: &[f64],
@@ -133,13 +133,15 @@ pub extern "C" fn overbrindle_piece_summary(
     end: usize,
     readings: &mut usize,
     mean: &mut f64,
+    has_spread: &mut u32,
     spread: &mut f64,
 ) -> u32
-    ensures { λ r. ⌜ pieceAs r (now (readings .exit)) (now (mean .exit)) (now (spread .exit)) ≡ pieceOf (summarisedAs (now (channel .entry)) start end) ⌝ }
+    ensures { λ r. ⌜ pieceAs r (now (readings .exit)) (now (mean .exit)) (now («has_spread» .exit)) (now (spread .exit)) ≡ pieceOf (summarisedAs (now (channel .entry)) start end) ⌝ }
 {
     let told = c_answers::piece(piece::summary(channel, start, end));
     *readings = told.length;
     *mean = told.mean;
+    *has_spread = told.has_spread;
     *spread = told.spread;
     told.number
 }

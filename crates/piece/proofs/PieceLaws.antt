@@ -1,7 +1,8 @@
--- A segment from the sums before and after it, a summary from its segment, and what it says in the rules' numbers. Assumes nothing.
-use Prim.Native.Nat.{ℕ, _-_}
+-- A segment from the sums before and after it, the spread of few readings and of more, a summary from its segment, and what it says in the rules' numbers. Assumes nothing.
+use Prim.Native.Nat.{ℕ, _-_, _≤_, _<_}
 use mathlib.Core.Path.{_≡_}
-use mathlib.Core.List.{List, []}
+use mathlib.Core.List.{List}
+use borrow.Author.Tests.{lt-ltb, le-ltb}
 use lib.ListN.{length}
 use lib.Ieee.{Float}
 use Rattle.floats.specs.Numbers.{_+ᶠ_, _-ᶠ_, _/ᶠ_, ofWhole}
@@ -12,9 +13,12 @@ use Rattle.sums.specs.Sums.{meanOf}
 use Rattle.costs.specs.Costs.{segmentAbout, segmentOf, l2Cost}
 use Rattle.costs.specs.declared.Segment.{Segment}
 use Rattle.piece.specs.declared.segment_of.Running.{Running}
+use Rattle.piece.specs.declared.Spread.{Spread}
+use Rattle.piece.specs.declared.Spread.the-variants as Spread
 use Rattle.piece.specs.declared.Summarised.{Summarised}
 use Rattle.piece.specs.declared.Summarised.the-variants as Summarised
 use Rattle.piece.specs.Inner.Running.{runningAt}
+use Rattle.piece.specs.Spread.{notBelowZero, spreadOf}
 use Rattle.piece.specs.Piece.{summaryOf, pieceTests, summarisedAs, summarised}
 
 pub segment-between : (xs : List Float) (mean : Float) (a b : ℕ) (x y : Running) (l : Float) → x ≡ runningAt xs mean a → y ≡ runningAt xs mean b → l ≡ ofWhole (b - a)
@@ -22,10 +26,18 @@ pub segment-between : (xs : List Float) (mean : Float) (a b : ℕ) (x y : Runnin
 unfolding segmentAbout runningAt
 segment-between xs mean a b x y l e f g = rw (e, f, g)
 
-pub summary-from : (xs : List Float) (a b : ℕ) (m q : Float) (s : Segment) → m ≡ meanOf xs → s ≡ segmentAbout xs m a b → q ≡ l2Cost s
-    → record { length = b - a; mean = s .sum /ᶠ s .length +ᶠ m; spread = q /ᶠ s .length } ≡ summaryOf xs a b
+pub spread-of-few : (n : ℕ) (cost : Float) → n < 2 → spreadOf n cost ≡ Spread.Absent
+unfolding spreadOf
+spread-of-few n cost h = rw (lt-ltb n 2 h)
+
+pub spread-of-more : (n : ℕ) (cost : Float) → 2 ≤ n → spreadOf n cost ≡ Spread.Of (notBelowZero cost /ᶠ ofWhole (n - 1))
+unfolding spreadOf
+spread-of-more n cost h = rw (le-ltb n 2 h)
+
+pub summary-from : (xs : List Float) (a b : ℕ) (m q : Float) (s : Segment) (r : Spread) → m ≡ meanOf xs → s ≡ segmentAbout xs m a b → q ≡ l2Cost s → r ≡ spreadOf (b - a) q
+    → record { length = b - a; mean = s .sum /ᶠ s .length +ᶠ m; spread = r } ≡ summaryOf xs a b
 unfolding summaryOf segmentOf
-summary-from xs a b m q s e f g = rw (g, f, e)
+summary-from xs a b m q s r e f g h = rw (h, g, f, e)
 
 -- in the rules' numbers: 6, then 12, then the values
 pub summarised-said : (xs : List Float) (a b : ℕ) → summarised (summarisedAs xs a b) ≡ tried refusing (pieceTests xs a b) (summarised (Summarised.Piece (summaryOf xs a b)))

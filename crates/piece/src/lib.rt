@@ -1,10 +1,13 @@
-// The summary of a piece of one channel (rule 6.1): how many readings, their mean, and how far they
-// spread.
+// The summary of a piece of one channel (rules 6.1 and 6.2): how many readings, their mean, and how far
+// they spread.
 //
 // Every call ends with a summary or refusal 6 or 12, and asks nothing of its caller. `specs/Piece`
-// has the definition that the answer equals, and `summarised`, what it says in the rules' numbers,
-// stated by the law `summarised-said`; mean and cost are those of the search. It needs no lent room.
+// has the definition that the answer equals, `specs/Spread` that of the spread, and `summarised`, what
+// it says in the rules' numbers, is stated by the law `summarised-said`; mean and cost are those of the
+// search. A spread is never below 0, and one reading has none: `proofs/SpreadLaws`, of the call. It needs
+// no lent room.
 mod segment_of;
+mod spread_of;
 
 ghost use mathlib.Core.Path.{_≡_};
 ghost use Prim.Native.Nat.{_<_, _≤_};
@@ -14,13 +17,21 @@ use costs::l2_cost;
 use refusals::MAX_READINGS;
 use refusals::Refusal;
 use segment_of::segment_of;
+use spread_of::spread_of;
 use sums::mean;
 
-// A piece: `length` readings, their `mean`, and their `spread`, the L2 cost divided by the length.
+// How far the readings of a piece spread: `Of` their variance, the L2 cost divided by the length less
+// one. It is `Absent` of a single reading, which has none.
+pub enum Spread {
+    Absent,
+    Of(f64),
+}
+
+// A piece: `length` readings, their `mean`, and their `spread`.
 pub struct PieceSummary {
     pub length: usize,
     pub mean: f64,
-    pub spread: f64,
+    pub spread: Spread,
 }
 
 // The answer of `summary`.
@@ -36,10 +47,11 @@ fn summarise(channel: &[f64], start: usize, end: usize) -> PieceSummary
 {
     let centre = mean(channel);
     let segment = segment_of(channel, centre, start, end);
+    let count = end - start;
     PieceSummary {
-        length: end - start,
+        length: count,
         mean: segment.sum / segment.length + centre,
-        spread: l2_cost(segment) / segment.length,
+        spread: spread_of(count, l2_cost(segment)),
     }
 }
 

@@ -12,6 +12,7 @@
 //     10, 11    the L2 cost and the Normal cost of a piece, or of a segment over the channels
 //     12 to 14  the penalty by BIC for L2 and for Normal, and a custom one
 //     15 to 18  a noise variance, a sum of them, how many lent floats are cleared, and a lent float
+//     19        whether a piece has a spread, 1 or 0
 //
 // `tests/vectors/run` makes standard input; the first lines of `tests/vectors/sums.rs` say what
 // a case is made of.

@@ -4,6 +4,7 @@ ghost use lib.ListN.{length};
 use costs::CostFunction;
 use costs::Segment;
 use costs::segment_cost;
+use piece::Spread;
 use piece::Summarised;
 use replay_common::Progress;
 use replay_common::next_block;
@@ -99,22 +100,45 @@ fn match_sums(
     match_costs(matched, ends, (end - start) as u64, answers)
 }
 
+// Compares the `spread` of a piece from `start` on with the stored one: the last byte of `place` is 1
+// where there is one, and then it stands in `answers`.
+fn match_spread(
+    progress: Progress,
+    spread: Spread,
+    start: usize,
+    place: &[u8; 33],
+    answers: &[u8; 33],
+) -> Progress {
+    let stored = number(place, 28, 1);
+    match spread {
+        Spread::Absent => progress.matched(19, start, stored, 0),
+        Spread::Of(value) => progress
+            .matched(19, start, stored, 1)
+            .matched_float(2, start, answers, 9, value),
+    }
+}
+
 // Compares the answer of `summary` for the piece of `channel` from `start` up to `end` with the stored
-// one: the length, or the number `refusal` 32 bits higher, then mean and spread from `answers`.
+// one: the length, or the number `refusal` 32 bits higher, then mean and spread from `answers`, and from
+// `place` whether there is a spread.
 fn match_summary(
     progress: Progress,
     channel: &[f64],
     start: usize,
     end: usize,
     refusal: u64,
+    place: &[u8; 33],
     answers: &[u8; 33],
 ) -> Progress {
     let count = wrapping_sub_u64(end as u64, start as u64);
     match piece::summary(channel, start, end) {
-        Summarised::Piece(summary) => progress
-            .matched(0, start, refusal << 32 | count, summary.length as u64)
-            .matched_float(1, start, answers, 1, summary.mean)
-            .matched_float(2, start, answers, 9, summary.spread),
+        Summarised::Piece(summary) => {
+            let spread = summary.spread;
+            let matched = progress
+                .matched(0, start, refusal << 32 | count, summary.length as u64)
+                .matched_float(1, start, answers, 1, summary.mean);
+            match_spread(matched, spread, start, place, answers)
+        }
         Summarised::Refused(r) => progress.matched(0, start, refusal << 32, r.number() << 32),
     }
 }
@@ -122,7 +146,7 @@ fn match_summary(
 // Replays the piece whose first 33 bytes are `answers`.
 pub(crate) fn replay_piece(progress: Progress, answers: &[u8; 33]) -> Progress {
     let series = replay_common::next_series();
-    let place = next_block(28);
+    let place = next_block(29);
     let running = next_block(32);
     if !(series.whole & place.whole & running.whole) {
         return progress.stopped();
@@ -134,6 +158,6 @@ pub(crate) fn replay_piece(progress: Progress, answers: &[u8; 33]) -> Progress {
     let start = number(&bytes, 0, 2) as usize;
     let end = number(&bytes, 2, 2) as usize;
     let first = match_range(progress, channel, &bytes);
-    let second = match_summary(first, channel, start, end, series.refusal, answers);
+    let second = match_summary(first, channel, start, end, series.refusal, &bytes, answers);
     match_sums(second, channel, start, end, &sums, answers).counted(PIECE)
 }

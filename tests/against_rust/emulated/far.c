@@ -80,8 +80,9 @@ static word search(int strict) {
 static word piece(void) {
     struct slice c = slice(8);
     word start = number(), end = number();
-    word *length = one(), *mean = one(), *spread = one();
-    return overbrindle_piece_summary(c.things, c.count, start, end, length, (f64 *)mean, (f64 *)spread);
+    word *length = one(), *mean = one(), *has_spread = one(), *spread = one();
+    return overbrindle_piece_summary(c.things, c.count, start, end, length, (f64 *)mean, (u32 *)has_spread,
+                                     (f64 *)spread);
 }
 
 static word chart(int function) {

@@ -128,14 +128,17 @@ u32 overbrindle_detect_multi_strict(u32 cost, u32 kind, f64 penalty, word least,
     return search(2, cost, kind, penalty, least, r, rn, l, ln, c, cn, f, fn, i, in, p, pn, count, channel, index);
 }
 
-u32 overbrindle_piece_summary(const f64 *c, word cn, word start, word end, word *length, f64 *mean, f64 *spread) {
+// A number of 4 bytes goes and comes as a word, whose lower half is its own.
+u32 overbrindle_piece_summary(const f64 *c, word cn, word start, word end, word *length, f64 *mean, u32 *has_spread,
+                              f64 *spread) {
     begin(3);
-    word channel = things(c, cn, 8);
+    word channel = things(c, cn, 8), has = *has_spread;
     number(start), number(end);
-    word places[3] = {one(length), one(mean), one(spread)};
+    word places[4] = {one(length), one(mean), one(&has), one(spread)};
     u32 answer = call();
     kept(channel, cn);
-    one_taken(length, places[0]), one_taken(mean, places[1]), one_taken(spread, places[2]);
+    one_taken(length, places[0]), one_taken(mean, places[1]), one_taken(&has, places[2]), one_taken(spread, places[3]);
+    *has_spread = has;
     return answer;
 }
 

@@ -16,6 +16,7 @@ fn piece(stored: &mut Stored, [mean, spread, l2, normal]: [f64; 4]) -> ControlFl
     let refusal = stored.reader.size(1);
     let [start, end] = [0, 0].map(|_| stored.reader.size(2));
     let centre = stored.reader.floats::<3>().to_vec();
+    let has_spread = stored.reader.size(1);
     let mut sums = stored.reader.floats::<4>().to_vec();
     stored.case(Call::Centre(Rc::clone(&readings)), Outcome::Values(centre))?;
     let call = Call::Piece(Rc::clone(&readings), start, end);
@@ -28,7 +29,7 @@ fn piece(stored: &mut Stored, [mean, spread, l2, normal]: [f64; 4]) -> ControlFl
         return stored.case(call, Outcome::Said(Said::Refused(stated)));
     }
     let values = [mean, spread].map(|x| pattern(x) as usize);
-    let said = Said::Answered([&[end - start], &values[..]].concat());
+    let said = Said::Answered([&[end - start], &values[..1 + has_spread]].concat());
     stored.case(call, Outcome::Said(said))?;
     sums.extend([l2, normal]);
     stored.case(Call::Segment(readings, start, end), Outcome::Values(sums))

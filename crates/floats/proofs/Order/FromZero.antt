@@ -1,4 +1,4 @@
--- Values that are at or above 0, or NaN: what `round` returns for a fraction that is not negative, a product, and a middle with such a value added and taken away, between which nothing lies outside on both sides. Assumes nothing.
+-- Values that are at or above 0, or NaN: what `round` returns for a fraction that is not negative, a product, a quotient, and a middle with such a value added and taken away, between which nothing lies outside on both sides. Assumes nothing.
 use mathlib.Core.Path.{_≡_, refl, subst}
 use Prim.Native.Nat.{ℕ, zero, suc, _*_, _<_}
 use native.Mathlib.Nat.{mul-pos, zero-mul, mul-zero}
@@ -6,7 +6,7 @@ use native.Mathlib.Omega.{arith}
 use mathlib.Core.Bool.{Bool, true, false, cond}
 use lib.Dec.{T, eqb, lit<}
 use lib.IntN.{ℤ, pos}
-use lib.Ieee.{Float, nan, inf, fin, Format, binary64, up, down, round, add, sub, mul, neg, lt, le}
+use lib.Ieee.{Float, nan, inf, fin, Format, binary64, up, down, round, add, sub, mul, div, neg, lt, le}
 use lib.Ieee.Fits.{down-pos}
 use lib.Ieee.Positive.{positive}
 use Rattle.floats.specs.Numbers.{+0}
@@ -82,6 +82,36 @@ product-from-zero (fin false m e) (fin true zero d) p q = λ _. round-zero true 
     nothing : (a b : ℕ) → a * (0 * b) ≡ 0
     nothing a b = rw (zero-mul b, mul-zero a)
 product-from-zero (fin false m e) (fin true (suc n) d) p q = λ _. absurd (below-zero n d (q tt))
+
+-- ---- quotients
+-- if it is a number, it has no minus sign: it is at or above 0, and not -0
+abbrev pub Unsigned : Float → Type 0
+Unsigned x = T (number x) → T (clear x)
+
+pub unsigned-from-zero : (x : Float) → Unsigned x → FromZero x
+unsigned-from-zero x p n = clear-from-zero x (p n) n
+
+-- a quotient of numbers, or by a zero, of which 0 / 0 is NaN
+divided : (none nothing : Bool) (y : Float) → T (clear y) → Unsigned (cond none (cond nothing nan (inf false)) y)
+divided true true y p = λ n. absurd n
+divided true false y p = λ _. tt
+divided false nothing y p = λ _. p
+
+pub quotient-unsigned : (f : Format) (x y : Float) → Unsigned x → T (clear y) → Unsigned (div f x y)
+unfolding div
+quotient-unsigned f x nan p q = absurd q
+quotient-unsigned f x (inf true) p q = absurd q
+quotient-unsigned f x (fin true n d) p q = absurd q
+quotient-unsigned f nan (inf false) p q = λ n. absurd n
+quotient-unsigned f nan (fin false n d) p q = λ n. absurd n
+quotient-unsigned f (inf true) (inf false) p q = λ n. absurd n
+quotient-unsigned f (inf false) (inf false) p q = λ n. absurd n
+quotient-unsigned f (inf true) (fin false n d) p q = λ _. absurd (p tt)
+quotient-unsigned f (inf false) (fin false n d) p q = λ _. tt
+quotient-unsigned f (fin true m e) (inf false) p q = λ _. absurd (p tt)
+quotient-unsigned f (fin false m e) (inf false) p q = λ _. tt
+quotient-unsigned f (fin true m e) (fin false n d) p q = λ _. absurd (p tt)
+quotient-unsigned f (fin false m e) (fin false n d) p q = divided (eqb n 0) (eqb m 0) (round f false (m * up e * down d) (n * up d * down e)) (round-clear f (m * up e * down d) (n * up d * down e))
 
 -- ---- limits
 added-number : (f : Format) (x y : Float) → T (number (add f x y)) → T (number x) × T (number y)

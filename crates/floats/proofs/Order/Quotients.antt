@@ -14,7 +14,7 @@ use Rattle.floats.proofs.Order.Laws.{number, le-reflexive, le-left, le-
 use Rattle.floats.proofs.Order.Rounding.{round-le}
 
 -- ---- by a positive value
-div-inf : (f : Format) (s : Bool) (y : Float) → T (positive y) → div f (inf s) y ≡ inf s
+pub div-inf : (f : Format) (s : Bool) (y : Float) → T (positive y) → div f (inf s) y ≡ inf s
 unfolding div
 div-inf f s nan p = absurd p
 div-inf f s (inf t) p = absurd p
