@@ -135,8 +135,8 @@ uint32_t overbrindle_detect_multi_strict(uint32_t cost, uint32_t penalty_kind, d
  * The spread is the variance: the sum of the squares about the mean, or 0 where rounding brought that
  * below 0, divided by length - 1. So it is at or above 0, or NaN. A single reading has none: *has_spread
  * is 1 where there is a spread, and else 0, with 0 in *spread, as on a refusal.
- * Before request 5 landed the spread was divided by length, could be below 0, and was there of one reading
- * too; a call without has_spread does not compile. */
+ * An older library divided by length, so that its spread was another number, could be below 0, and was
+ * there of one reading too. A call that was written for it, without has_spread, does not compile. */
 uint32_t overbrindle_piece_summary(const double *channel, size_t channel_len,
     size_t start, size_t end, size_t *length, double *mean, uint32_t *has_spread, double *spread);
 

@@ -406,11 +406,13 @@ fn noises(random: &mut Random) -> Vec<Case> {
     cases
 }
 
+/// In any order, so that a few of them are of many kinds.
 fn all_pieces(random: &mut Random) -> Vec<Case> {
-    pieces::pieces(random)
-        .into_iter()
-        .map(Case::Piece)
-        .collect()
+    let mut pieces = pieces::pieces(random);
+    for last in (1..pieces.len()).rev() {
+        pieces.swap(last, random.below(last as u64 + 1) as usize);
+    }
+    pieces.into_iter().map(Case::Piece).collect()
 }
 
 fn nearly_equal(random: &mut Random) -> Vec<Case> {

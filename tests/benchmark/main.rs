@@ -73,21 +73,17 @@ fn print_editions(best: Best, random: &mut Random) {
 /// Summaries of pieces, of the same kinds of channels.
 fn print_pieces(best: Best, random: &mut Random) {
     let tables = [
-        (format!("{N} readings"), charts::drifting(random, N)),
-        (
-            format!("{N} rounded readings about levels that change at every 16th"),
-            charts::stepped(random, N),
-        ),
-        (format!("{N} equal readings"), charts::flat(N)),
+        ("that drift", charts::drifting(random, N)),
+        ("that are rounded and stepped", charts::stepped(random, N)),
+        ("that are equal", charts::flat(N)),
+        ("that drift", charts::drifting(random, SHORT)),
     ];
     for (what, channel) in tables {
-        println!("\nPiece summaries in a channel of {what}, beside a plain twin in Rust:\n");
+        let n = channel.len();
+        println!("\nPiece summaries of {n} readings {what}, a thousand calls, beside a plain twin in Rust:\n");
         head("µs");
-        pieces::rows(best, &channel).iter().for_each(Row::print);
+        thousandfold(pieces::rows(best, &channel));
     }
-    println!("\nThe same of {SHORT} readings, a thousand calls:\n");
-    head("µs");
-    thousandfold(pieces::rows(best, &charts::drifting(random, SHORT)));
 }
 
 fn main() {

@@ -47,8 +47,8 @@ fn row(best: Best, name: &str, channel: &[f64], start: usize, end: usize) -> Row
 pub fn rows(best: Best, channel: &[f64]) -> Vec<Row> {
     let n = channel.len();
     vec![
-        row(best, "piece summary, all readings", channel, 0, n),
-        row(best, "piece summary, the second half", channel, n / 2, n),
-        row(best, "piece summary, one reading", channel, 0, 1),
+        row(best, "all readings", channel, 0, n),
+        row(best, "the second half", channel, n / 2, n),
+        row(best, "one reading", channel, 0, 1),
     ]
 }

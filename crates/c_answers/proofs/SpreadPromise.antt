@@ -22,7 +22,7 @@ use Rattle.c_answers.specs.Told.{pieceAs, spreadTold, pieceOf}
 
 module _ (xs : List Float) (a b number size : ℕ) (mean : Float) (has : ℕ) (spread : Float) (told : pieceAs number size mean has spread ≡ pieceOf (summarisedAs xs a b)) where
   -- the summary that has the spread, or why there is none
-  pub data Cases : Type 0 where
+  data Cases : Type 0 where
     of-summary : (s : PieceSummary) → Summarised.Piece s ≡ summarisedAs xs a b → s .spread ≡ Spread.Of spread → number ≡ 0 → size ≡ s .length → has ≡ 1 → Cases
     none : has ≡ 0 → spread ≡ +0 → (number ≡ 0 → size ≡ 1) → Cases
 
