@@ -131,10 +131,11 @@ uint32_t overbrindle_detect_multi_strict(uint32_t cost, uint32_t penalty_kind, d
     double *pool, size_t pool_len, size_t *count, size_t *channel, size_t *index);
 
 /* The number of readings of a channel from start up to end, without end, their mean and their spread.
- * NaN and infinities are taken as they are.
+ * Where a reading of the channel is NaN or infinite, in the piece or not, the mean and the spread are NaN.
  * The spread is the variance: the sum of the squares about the mean, or 0 where rounding brought that
- * below 0, divided by length - 1. So it is at or above 0, or NaN. A single reading has none: *has_spread
- * is 1 where there is a spread, and else 0, with 0 in *spread, as on a refusal.
+ * below 0, divided by length - 1. So it is at or above 0, or NaN; squares that overflow make it infinite
+ * or NaN. A single reading has none: *has_spread is 1 where there is a spread, and else 0, with 0 in
+ * *spread, as on a refusal.
  * An older library divided by length, so that its spread was another number, could be below 0, and was
  * there of one reading too. A call that was written for it, without has_spread, does not compile. */
 uint32_t overbrindle_piece_summary(const double *channel, size_t channel_len,

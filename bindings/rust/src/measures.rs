@@ -7,10 +7,10 @@ use crate::{lent, Refusal};
 pub struct PieceSummary {
     /// How many readings it has.
     pub length: usize,
-    /// Their mean.
+    /// Their mean. It is NaN where a reading of the channel is NaN or infinite, in the piece or not.
     pub mean: f64,
     /// Their variance: the sum of their squares about their mean, divided by one less than there are. It is at or
-    /// above 0, or NaN, as where a reading of the channel is. A single reading has none.
+    /// above 0, or NaN, as where the mean is. A single reading has none.
     pub spread: Option<f64>,
 }
 

@@ -36,10 +36,23 @@ fn equal_readings_do_not_spread_below_zero() {
 }
 
 #[test]
-fn a_cost_that_is_no_number_or_infinite_stays() {
-    let gap = [0.0, f64::NAN, 4.0, 4.0];
-    assert!(spread(&gap, 2, 4).is_some_and(f64::is_nan));
+fn a_cost_that_is_infinite_stays() {
     assert_eq!(spread(&[1e200, -1e200], 0, 2), Some(f64::INFINITY));
+}
+
+/// In the piece, before it and after it.
+#[test]
+fn a_gap_of_the_channel_shows_in_every_piece() {
+    for gap in [f64::NAN, f64::INFINITY, f64::NEG_INFINITY] {
+        for at in 0..4 {
+            let mut channel = [0.0, 1.0, 4.0, 4.0];
+            channel[at] = gap;
+            for (start, end) in [(0, 2), (1, 3), (2, 4), (0, 4)] {
+                assert!(piece_summary(&channel, start, end).unwrap().mean.is_nan());
+                assert!(spread(&channel, start, end).is_some_and(f64::is_nan));
+            }
+        }
+    }
 }
 
 /// 0 stands where there is no spread, and the flag says that there is none.

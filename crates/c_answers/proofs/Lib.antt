@@ -1,3 +1,3 @@
 pub mod ReadBack
 pub mod TellLaws
-pub mod SpreadPromise
+pub mod PiecePromise

@@ -34,6 +34,7 @@ whole-channel : summarisedAs steps 0 4 ≡ Summarised.Piece (record { length = 4
 unfolding opened steps
 whole-channel = refl
 
+-- that float by its fraction and by its decimals, in bits
 by-decimals : (toBits binary64 (ratio 16 3) ≡ 0x4015555555555555) × (toBits binary64 (ratio 5333333333333333 (10 ^ 15)) ≡ 0x4015555555555555)
 unfolding toBits ratio
 by-decimals = (refl, refl)

@@ -1,3 +1,4 @@
 pub mod PieceLaws
 pub mod SpreadLaws
+pub mod GapLaws
 pub mod Examples

@@ -4,10 +4,9 @@ use mathlib.Core.Logic.{_⊎_, inl, inr}
 use Prim.Native.Nat.{ℕ, zero, suc, _-_, _≤_, _<_}
 use native.Mathlib.Nat.{eq-or-lt-of-le}
 use native.Mathlib.Omega.{arith}
-use mathlib.Core.Bool.{Bool, true, false, not, _&&_, cond, true≢false}
+use mathlib.Core.Bool.{Bool, true, false, cond, true≢false}
 use mathlib.Core.List.{List}
-use lib.Dec.{T, ltb, leb, ltb→lt, nltb→le, leb→le}
-use lib.ListN.{length}
+use lib.Dec.{T}
 use lib.Ieee.{Float, nan, inf, fin, binary64, ofInt, lt, div}
 use lib.Ieee.Back.{round-whole}
 use lib.Ieee.Exact.{HasValue}
@@ -15,15 +14,13 @@ use lib.Ieee.Fits.{sub-fits}
 use lib.Ieee.Positive.{positive, positive-of-value}
 use Rattle.floats.specs.Numbers.{_/ᶠ_, _<ᶠ_, +0, +∞, ofWhole}
 use Rattle.floats.proofs.MinusZero.{Plain, minus-zero, plain-zero, plain-add}
-use Rattle.floats.proofs.Order.FromZero.{FromZero, Unsigned, unsigned-from-zero, quotient-unsigned}
+use Rattle.floats.proofs.Order.FromZero.{FromZero, Unsigned, unsigned-from-zero, whole-clear, quotient-unsigned}
 use Rattle.floats.proofs.Order.Laws.{number}
 use Rattle.floats.proofs.Order.Quotients.{div-inf, div-number}
-use Rattle.floats.proofs.Order.Rounding.{clear, round-clear}
+use Rattle.floats.proofs.Order.Rounding.{clear}
 use Rattle.floats.proofs.Order.Zero.{some-below}
 use Rattle.logic.proofs.Laws.{clash}
 use Rattle.refusals.specs.Limits.{maxReadings}
-use Rattle.refusals.specs.Tried.{tried}
-use Rattle.refusals.specs.declared.Refusal.the-variants as Refusal
 use Rattle.sums.specs.Sums.{meanOf}
 use Rattle.costs.specs.Costs.{segmentAbout, segmentOf, l2Cost}
 use Rattle.costs.proofs.StartLaws.{l2-from-either-zero}
@@ -32,8 +29,8 @@ use Rattle.piece.specs.declared.Spread.{Spread}
 use Rattle.piece.specs.declared.Spread.the-variants as Spread
 use Rattle.piece.specs.declared.Summarised.the-variants as Summarised
 use Rattle.piece.specs.Spread.{notBelowZero, spreadOf}
-use Rattle.piece.specs.Piece.{summaryOf, pieceTests, summarisedAs}
-use Rattle.piece.proofs.PieceLaws.{spread-of-few, spread-of-more}
+use Rattle.piece.specs.Piece.{summaryOf, summarisedAs}
+use Rattle.piece.proofs.PieceLaws.{spread-of-few, spread-of-more, Found, found}
 
 -- ---- the cost, or +0 where it is below 0
 chosen : (b : Bool) (x : Float) → T (clear x) → Unsigned (cond b +0 x)
@@ -63,10 +60,6 @@ divisor-exact n h = round-whole binary64 false n (omega (arith, h))
 divisor-positive : (n : ℕ) → 2 ≤ n → n ≤ maxReadings → T (positive (ofWhole (n - 1)))
 divisor-positive n h l = positive-of-value (ofWhole (n - 1)) (n - 1) 1 (divisor-exact (n - 1) (omega (arith, l))) (omega (arith, h))
 
-divisor-clear : (n : ℕ) → T (clear (ofWhole n))
-unfolding ofInt
-divisor-clear n = round-clear binary64 n 1
-
 -- ---- what stays
 -- what is no NaN
 number-kept : (cost : Float) → T (number cost) → T (number (notBelowZero cost))
@@ -90,31 +83,16 @@ module _ (xs : List Float) (a b : ℕ) (s : PieceSummary) (answer : Summarised.P
   abbrev cost : Float
   cost = l2Cost (segmentOf xs a b)
 
-  -- no test held, so it is the summary of a piece of the channel
-  record Found : Type 0 where
-    start-first : a < b
-    within : b ≤ length xs
-    short : length xs ≤ maxReadings
-    summed : s ≡ summaryOf xs a b
-
-  found : Found
-  unfolding summarisedAs pieceTests tried
-  found = go (ltb maxReadings (length xs)) (ltb a b) (leb b (length xs)) (nltb→le maxReadings (length xs)) (ltb→lt a b) (leb→le b (length xs)) answer
-    where
-      go : (p q r : Bool) → (T (not p) → length xs ≤ maxReadings) → (T q → a < b) → (T r → b ≤ length xs)
-          → Summarised.Piece s ≡ cond p (Summarised.Refused Refusal.TooLong) (cond (not (q && r)) (Summarised.Refused Refusal.Piece) (Summarised.Piece (summaryOf xs a b))) → Found
-      go true q r f g h e = absurd (clash cc)
-      go false false r f g h e = absurd (clash cc)
-      go false true false f g h e = absurd (clash cc)
-      go false true true f g h e = record { start-first = g tt; within = h tt; short = f tt; summed = cc e }
+  abbrev piece : Found xs a b s
+  piece = found xs a b s answer
 
   size-is : s .length ≡ b - a
   unfolding summaryOf
-  size-is = ap (λ (p : PieceSummary). p .length) (found .summed)
+  size-is = ap (λ (p : PieceSummary). p .length) (piece .summed)
 
   spread-is : s .spread ≡ spreadOf (b - a) cost
   unfolding summaryOf
-  spread-is = ap (λ (p : PieceSummary). p .spread) (found .summed)
+  spread-is = ap (λ (p : PieceSummary). p .spread) (piece .summed)
 
   -- one reading has none, and any more have one
   pub summary-one : s .length ≡ 1 → s .spread ≡ Spread.Absent
@@ -124,7 +102,7 @@ module _ (xs : List Float) (a b : ℕ) (s : PieceSummary) (answer : Summarised.P
   summary-more h = spread-is ∙ ap (λ (n : ℕ). spreadOf n cost) (sym size-is) ∙ spread-of-more (s .length) cost h
 
   sized : (1 ≡ s .length) ⊎ (1 < s .length)
-  sized = eq-or-lt-of-le (omega (arith, size-is, found .start-first))
+  sized = eq-or-lt-of-le (omega (arith, size-is, piece .start-first))
 
   -- where there is none, there is one reading
   pub summary-absent : s .spread ≡ Spread.Absent → s .length ≡ 1
@@ -143,7 +121,7 @@ module _ (xs : List Float) (a b : ℕ) (s : PieceSummary) (answer : Summarised.P
     value = let e = sym is ∙ summary-more spread-more in cc
 
     short : s .length ≤ maxReadings
-    short = omega (arith, size-is, found .within, found .short)
+    short = omega (arith, size-is, piece .within, piece .short)
 
     positive-others : T (positive others)
     positive-others = divisor-positive (s .length) spread-more short
@@ -155,7 +133,7 @@ module _ (xs : List Float) (a b : ℕ) (s : PieceSummary) (answer : Summarised.P
     -- no minus sign, so at or above 0, and not -0; or NaN
     pub summary-unsigned : Unsigned x
     unfolding segmentOf
-    summary-unsigned = subst Unsigned (sym value) (quotient-unsigned binary64 (notBelowZero cost) others (kept-unsigned cost (cost-plain xs (meanOf xs) a b .other)) (divisor-clear (s .length - 1)))
+    summary-unsigned = subst Unsigned (sym value) (quotient-unsigned binary64 (notBelowZero cost) others (kept-unsigned cost (cost-plain xs (meanOf xs) a b .other)) (whole-clear (s .length - 1)))
 
     pub summary-from-zero : FromZero x
     summary-from-zero = unsigned-from-zero x summary-unsigned

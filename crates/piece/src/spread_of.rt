@@ -4,8 +4,8 @@ ghost use Rattle.piece.specs.Spread.{notBelowZero, spreadOf};
 use crate::Spread;
 use std::num::nearest_u64_to_f64;
 
-// `cost`, or +0 where it is below 0: rounding brings that of nearly equal readings there. A NaN is not
-// below 0, and stays.
+// `cost`, or +0 where it is below 0: rounding can bring that of nearly equal readings there. A NaN is
+// not below 0, and stays.
 fn not_below_zero(cost: f64) -> f64
     ensures { λ r. ⌜ r ≡ notBelowZero cost ⌝ }
 {
@@ -16,7 +16,7 @@ fn not_below_zero(cost: f64) -> f64
 }
 
 // The spread of `count` readings whose L2 cost is `cost`: the cost, or +0 where it is below 0, divided by
-// `count` less one, of which one reading leaves nothing to divide by.
+// `count` less one. A single reading has none, since that leaves nothing to divide by.
 pub(crate) fn spread_of(count: usize, cost: f64) -> Spread
     ensures { λ r. ⌜ r ≡ spreadOf count cost ⌝ }
 {

@@ -6,10 +6,10 @@ use native.Mathlib.Omega.{arith}
 use mathlib.Core.Bool.{Bool, true, false, cond}
 use lib.Dec.{T, eqb, lit<}
 use lib.IntN.{ℤ, pos}
-use lib.Ieee.{Float, nan, inf, fin, Format, binary64, up, down, round, add, sub, mul, div, neg, lt, le}
+use lib.Ieee.{Float, nan, inf, fin, Format, binary64, up, down, round, add, sub, mul, div, neg, lt, le, ofInt}
 use lib.Ieee.Fits.{down-pos}
 use lib.Ieee.Positive.{positive}
-use Rattle.floats.specs.Numbers.{+0}
+use Rattle.floats.specs.Numbers.{+0, ofWhole}
 use Rattle.floats.proofs.Order.Fractions.{Leq, leq→le}
 use Rattle.floats.proofs.Order.Laws.{number, le-reflexive, le-left, le-right, lt→le, le-transitive, lt-then-le, lt-not-le, neg-anti}
 use Rattle.floats.proofs.Order.Rounding.{clear, round-clear, round-le}
@@ -90,6 +90,11 @@ Unsigned x = T (number x) → T (clear x)
 
 pub unsigned-from-zero : (x : Float) → Unsigned x → FromZero x
 unsigned-from-zero x p n = clear-from-zero x (p n) n
+
+-- a whole number has none
+pub whole-clear : (n : ℕ) → T (clear (ofWhole n))
+unfolding ofInt
+whole-clear n = round-clear binary64 n 1
 
 -- a quotient of numbers, or by a zero, of which 0 / 0 is NaN
 divided : (none nothing : Bool) (y : Float) → T (clear y) → Unsigned (cond none (cond nothing nan (inf false)) y)
