@@ -49,7 +49,7 @@ fn due(piece: &Piece, fault: Fault) -> Told {
     }
 }
 
-/// The spread that is due, or a wrong one: as it was before there were rules for it, or by rules that look alike.
+/// The spread that is due, or a wrong one: as it was before rule 6.2, or by a rule that looks alike.
 fn faulty(summary: &Summary, fault: Fault) -> Option<f64> {
     let (length, cost) = (summary.length as f64, summary.l2);
     match summary.spread {

@@ -4,9 +4,10 @@ use crate::timing::{Best, Row};
 use overbrindle::lent;
 use std::hint::black_box;
 
-/// Length, mean and spread by the rules, in the order of the rules, and without the tests of a channel's length.
+/// Length, mean and spread.
 type Summary = (usize, f64, Option<f64>);
 
+/// By the rules and in their order, but without a limit of readings.
 fn twin(channel: &[f64], start: usize, end: usize) -> Option<Summary> {
     if start >= end || end > channel.len() {
         return None;

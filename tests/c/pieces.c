@@ -49,7 +49,7 @@ static void refused(const char *file, int line, const double *channel, size_t co
 
 void test_pieces(void) {
     static const double many[TOO_MANY] = {0};
-    const double step[] = {0, 0, 4, 4}, three[] = {1, 2, 6}, gap[] = {0, NAN, 4, 4};
+    const double step[] = {0, 0, 4, 4}, three[] = {1, 2, 6}, gap[] = {0, NAN, 4, 4}, infinite[] = {0, 4, 4, INFINITY};
     const double rounded[] = {1, 2, 2}, tenths[] = {0.1, 0.1, 0.1, 1}, large[] = {1e200, -1e200};
     summary(HERE, step, 4, 2, 4, 4.0, 0.0);
     summary(HERE, step, 4, 0, 4, 2.0, 5.333333333333333);
@@ -58,8 +58,10 @@ void test_pieces(void) {
     /* Rounding brings the cost of two equal readings below 0: the spread is +0. */
     summary(HERE, rounded, 3, 1, 3, 2.0, 0.0);
     summary(HERE, tenths, 4, 1, 3, 0.09999999999999998, 0.0);
-    /* A cost that is NaN or infinite stays. */
+    /* A gap elsewhere in the channel shows. */
     summary(HERE, gap, 4, 2, 4, NAN, NAN);
+    summary(HERE, infinite, 4, 0, 3, NAN, NAN);
+    /* A cost that is infinite stays. */
     summary(HERE, large, 2, 0, 2, 0.0, INFINITY);
     /* One reading has no spread, whatever its cost. */
     single(HERE, step, 4, 3, 4.0);
