@@ -1,9 +1,10 @@
 -- NaN, or the infinity of one sign: a sum stays so whatever is added, a product and a quotient too, and of two that are alike the difference is NaN. Assumes nothing.
 use mathlib.Core.Path.{_≡_, refl}
-use mathlib.Core.Bool.{Bool, true, false, not, cond, Bool·beq, true≢false}
+use mathlib.Core.Bool.{Bool, true, false, not, cond, _||_, Bool·beq, true≢false}
 use lib.Dec.{T, eqb}
 use lib.Ieee.{Float, nan, inf, fin, Format, neg, add, sub, mul, div, unlike}
 use Rattle.floats.specs.Finite.{finite}
+use Rattle.floats.proofs.Order.Fractions.{or-l, or-r}
 use Rattle.floats.proofs.Order.Rounding.{clear}
 
 -- whether `x` is NaN, or the infinity of the sign `s`
@@ -20,33 +21,30 @@ gap-endless (inf false) h = (false, tt)
 gap-endless (fin s m e) h = absurd (true≢false h)
 
 -- ---- sums
-pub add-endless : (f : Format) (s : Bool) (x y : Float) → T (endless s y) → T (endless s (add f x y))
+-- a sum is so where one of the two is
+endless-sum : (f : Format) (s : Bool) (x y : Float) → T (endless s x || endless s y) → T (endless s (add f x y))
 unfolding add
-add-endless f s nan y h = tt
-add-endless f s (inf t) nan h = tt
-add-endless f true (inf t) (inf false) h = absurd h
-add-endless f false (inf t) (inf true) h = absurd h
-add-endless f true (inf true) (inf true) h = tt
-add-endless f true (inf false) (inf true) h = tt
-add-endless f false (inf true) (inf false) h = tt
-add-endless f false (inf false) (inf false) h = tt
-add-endless f s (fin t m e) nan h = tt
-add-endless f s (fin t m e) (inf u) h = h
-add-endless f s (inf t) (fin u n d) h = absurd h
-add-endless f s (fin t m e) (fin u n d) h = absurd h
+endless-sum f s nan y h = tt
+endless-sum f s (inf t) nan h = tt
+endless-sum f s (inf true) (inf false) h = tt
+endless-sum f s (inf false) (inf true) h = tt
+endless-sum f true (inf true) (inf true) h = tt
+endless-sum f true (inf false) (inf false) h = absurd h
+endless-sum f false (inf true) (inf true) h = absurd h
+endless-sum f false (inf false) (inf false) h = tt
+endless-sum f true (inf true) (fin u n d) h = tt
+endless-sum f true (inf false) (fin u n d) h = absurd h
+endless-sum f false (inf true) (fin u n d) h = absurd h
+endless-sum f false (inf false) (fin u n d) h = tt
+endless-sum f s (fin t m e) nan h = tt
+endless-sum f s (fin t m e) (inf u) h = h
+endless-sum f s (fin t m e) (fin u n d) h = absurd h
 
 pub endless-add : (f : Format) (s : Bool) (x y : Float) → T (endless s x) → T (endless s (add f x y))
-unfolding add
-endless-add f s nan y h = tt
-endless-add f s (inf t) nan h = tt
-endless-add f true (inf false) (inf t) h = absurd h
-endless-add f false (inf true) (inf t) h = absurd h
-endless-add f true (inf true) (inf true) h = tt
-endless-add f true (inf true) (inf false) h = tt
-endless-add f false (inf false) (inf true) h = tt
-endless-add f false (inf false) (inf false) h = tt
-endless-add f s (inf t) (fin u n d) h = h
-endless-add f s (fin t m e) y h = absurd h
+endless-add f s x y h = endless-sum f s x y (or-l (endless s x) (endless s y) h)
+
+pub add-endless : (f : Format) (s : Bool) (x y : Float) → T (endless s y) → T (endless s (add f x y))
+add-endless f s x y h = endless-sum f s x y (or-r (endless s x) (endless s y) h)
 
 -- of two signs the sum is NaN
 pub endless-against : (f : Format) (s : Bool) (x y : Float) → T (endless s x) → T (endless (not s) y) → add f x y ≡ nan
