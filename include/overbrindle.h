@@ -16,8 +16,8 @@
  * - A slice is a pointer and the number of its elements. The pointer is never null and is aligned,
  *   also where there are no elements; the elements are initialised. A pointer to a single result
  *   (count, channel, index, reading, length, mean, has_spread, spread) is never null, is aligned and
- *   points to one object of its type; what that held before is not read. Slices and single results that a call
- *   writes to overlap nothing else that it is given.
+ *   points to one object of its type; what that held before is not read. Slices and single results that
+ *   a call writes to overlap nothing else that it is given.
  * - The floating-point environment is the one that C starts a program with: rounding to nearest, no
  *   flush-to-zero, no denormals-are-zero. Another gives other answers: with flush-to-zero
  *   overbrindle_sqrt(5e-324) is 5e-324 and overbrindle_ln(5e-324) is minus infinity.
