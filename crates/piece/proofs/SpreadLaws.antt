@@ -70,7 +70,7 @@ number-kept cost h = go (cost <ᶠ +0)
     go true = tt
     go false = h
 
--- a NaN, and +∞, stay, whatever they are divided by
+-- a NaN stays, whatever it is divided by, and +∞ where that is above 0
 nan-stays : (y : Float) → notBelowZero nan /ᶠ y ≡ nan
 nan-stays y = unfold notBelowZero lt div in refl
 
