@@ -2,7 +2,7 @@
 //!
 //! A root has to be the platform's, which IEEE 754 fixes to the bit. It does not fix the other two, so
 //! they have to be what rules 4.2 and 4.3 give. How far powers and logarithms are from the
-//! platform's is printed and held to nothing.
+//! platform's is printed and held to nothing; `precision` says more of the logarithm.
 
 use crate::faults::Fault;
 use crate::inputs::{Kind, Random, LOGARITHM_KINDS, POWER_KINDS, ROOT_KINDS};
@@ -17,6 +17,13 @@ const LARGEST_CHART_EXPONENT: u64 = 8192;
 pub struct Tally {
     pub compared: usize,
     pub differ: usize,
+}
+
+impl Tally {
+    pub fn add(&mut self, other: Tally) {
+        self.compared += other.compared;
+        self.differ += other.differ;
+    }
 }
 
 /// `count` inputs of each kind.
@@ -69,7 +76,7 @@ impl Trial<'_> {
 }
 
 /// How many values two results lie apart, which is their distance in units in the last place.
-fn distance(a: f64, b: f64) -> u64 {
+pub fn distance(a: f64, b: f64) -> u64 {
     match (a.is_nan(), b.is_nan()) {
         (true, true) => 0,
         (false, false) => place(a).abs_diff(place(b)),
@@ -84,6 +91,21 @@ fn place(x: f64) -> i64 {
         -magnitude
     } else {
         magnitude
+    }
+}
+
+/// The logarithm that is due, or one by another last step where a fault asks for it.
+fn ln_due(x: f64, fault: Fault) -> f64 {
+    let (high, low) = rules::parts_of_ln_2();
+    let rounded = high + low;
+    if fault.is("ln 2 in one part") {
+        rules::ln_by(x, |e, product| e * rounded + product)
+    } else if fault.is("a low part that the rounded ln 2 leaves") {
+        rules::ln_by(x, |e, product| e * high + (product + e * (rounded - high)))
+    } else if fault.is("the high part's product first") {
+        rules::ln_by(x, |e, product| (e * high + product) + e * low)
+    } else {
+        rules::ln(x)
     }
 }
 
@@ -107,7 +129,7 @@ pub fn compare(random: &mut Random, count: usize, fault: Fault) -> Tally {
     };
     trial.compare("powi", &POWER_KINDS, ours, rule, platform);
     let ours = |x| overbrindle::ln(f64::from_bits(x));
-    let rule = |x| rules::ln(f64::from_bits(x));
+    let rule = |x| ln_due(f64::from_bits(x), fault);
     let platform = |x| Some(f64::from_bits(x).ln());
     trial.compare("ln", &LOGARITHM_KINDS, ours, rule, platform);
     trial.tally

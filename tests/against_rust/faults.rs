@@ -6,7 +6,7 @@
 #[derive(Clone, Copy, Default)]
 pub struct Fault(Option<&'static str>);
 
-pub const FAULTS: [&str; 71] = [
+pub const FAULTS: [&str; 76] = [
     "search number",
     "search count",
     "search place",
@@ -78,6 +78,11 @@ pub const FAULTS: [&str; 71] = [
     "noise beyond",
     "package",
     "elementary",
+    "ln 2 in one part",
+    "a low part that the rounded ln 2 leaves",
+    "the high part's product first",
+    "ln as far off as before",
+    "ln changed where e is 0",
 ];
 
 impl Fault {

@@ -3,9 +3,10 @@
 //! the number of cases; after them `--family PART` for the families with this in their name alone, or
 //! `--fault NAME` to see that a wrong answer is noticed.
 //!
-//! It prints how many cases of each family had which outcome, and the largest distances of `ln` and
-//! `powi` from the platform's. A difference that docs/DIFFERENCES.md names is counted under that name;
-//! any other is shrunk and printed, and the program ends with status 1.
+//! It prints how many cases of each family had which outcome, the largest distances of `ln` and `powi`
+//! from the platform's, and that of `ln` from the logarithm itself by the size of the exponent. A
+//! difference that docs/DIFFERENCES.md names is counted under that name; any other is shrunk and printed,
+//! and the program ends with status 1.
 
 #[allow(dead_code)]
 #[path = "../vectors/calls.rs"]
@@ -27,6 +28,7 @@ mod faults;
 #[path = "../vectors/gapped.rs"]
 mod gapped;
 mod heard;
+mod hundred_bits;
 mod in_place;
 #[allow(dead_code)]
 #[path = "../vectors/inputs.rs"]
@@ -36,6 +38,7 @@ mod noises;
 #[allow(dead_code)]
 #[path = "../vectors/pieces.rs"]
 mod pieces;
+mod precision;
 #[path = "../vectors/rules.rs"]
 mod rules;
 #[allow(dead_code)]
@@ -181,7 +184,9 @@ fn compare(seed: u64, count: usize, part: Option<&str>, fault: Fault) -> ExitCod
         Some(part) => compare_drawn(&mut run, &mut random, part),
         None => {
             compare_all(&mut run, &mut random);
-            elementary = elementary::compare(&mut random, (count / 10).max(100), fault);
+            let count = (count / 10).max(100);
+            elementary = elementary::compare(&mut random, count, fault);
+            elementary.add(precision::compare(&mut random, count, fault));
         }
     }
     for (name, cases) in &run.named {

@@ -48,6 +48,12 @@ fn narrow_values(random: &mut Random) -> Vec<f64> {
     (0..VALUES).map(value).collect()
 }
 
+/// Values between 0.7072 and 1.4142, whose exponent is 0.
+fn near_one_values(random: &mut Random) -> Vec<f64> {
+    let value = |_| 0.7072 + 0.707 * ((random.next() >> 11) as f64 / (1u64 << 53) as f64);
+    (0..VALUES).map(value).collect()
+}
+
 /// What a chart asks at each of its places: a base close to 1, and twice the place.
 fn chart_values(random: &mut Random) -> Vec<(f64, u64)> {
     let value = |place| {
@@ -72,7 +78,6 @@ pub fn rows(best: Best, random: &mut Random) -> Vec<Row> {
     let chain = chained(&narrow, overbrindle::sqrt);
     let powers = apart(&chart, |(x, n)| overbrindle::powi(x, n));
     let platform = apart(&chart, |(x, n)| x.powi(n as i32));
-    let logarithms = apart(&wide, overbrindle::ln);
     vec![
         row(best, "sqrt, both called", root(), apart(&wide, called_sqrt)),
         row(
@@ -88,6 +93,22 @@ pub fn rows(best: Best, random: &mut Random) -> Vec<Row> {
             chained(&narrow, called_sqrt),
         ),
         row(best, "powi, n twice the place", powers, platform),
-        row(best, "ln", logarithms, apart(&wide, f64::ln)),
     ]
+}
+
+/// Logarithms of values of many sizes, of values near 1, and of numbers of readings, as BIC asks them.
+pub fn ln_rows(best: Best, random: &mut Random) -> Vec<Row> {
+    let kinds = [
+        ("ln", wide_values(random)),
+        ("ln, near 1", near_one_values(random)),
+        (
+            "ln, whole numbers up to 4,096",
+            (1..=VALUES as u32).map(f64::from).collect(),
+        ),
+    ];
+    let timed = |(name, values): &(&str, Vec<f64>)| {
+        let ours = apart(values, overbrindle::ln);
+        row(best, name, ours, apart(values, f64::ln))
+    };
+    kinds.iter().map(timed).collect()
 }

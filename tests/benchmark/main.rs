@@ -86,6 +86,35 @@ fn print_pieces(best: Best, random: &mut Random) {
     }
 }
 
+/// Normal searches of the other kinds of series, which take a logarithm for each candidate.
+fn print_normal(best: Best, random: &mut Random) {
+    println!("\nNormal searches by BIC of one channel of another kind, minimum length 2:\n");
+    head("µs");
+    let row = |what: &str, channel: Vec<f64>| {
+        let name = format!("{} readings, {what}", channel.len());
+        searches::normal_row(best, &name, channel)
+    };
+    row("rounded and stepped", charts::stepped(random, N)).print();
+    row("equal", charts::flat(N)).print();
+    let short = charts::drifting(random, SHORT);
+    thousandfold(vec![row("a thousand calls", short)]);
+}
+
+/// Logarithms, by themselves and in searches.
+fn print_logarithms(best: Best, random: &mut Random) {
+    println!("Normal searches by BIC, {N} readings a channel, minimum length 2:\n");
+    head("µs");
+    for sort in searches::sorts().into_iter().filter(|sort| sort.normal) {
+        searches::row(best, random, N, sort).0.print();
+    }
+    print_normal(best, random);
+    println!("\nLogarithms, a thousand calls:\n");
+    head("µs");
+    elementary::ln_rows(best, random)
+        .iter()
+        .for_each(Row::print);
+}
+
 fn main() {
     let words: Vec<String> = std::env::args().skip(1).collect();
     let rounds = words
@@ -99,7 +128,8 @@ fn main() {
     match words.get(1).map(String::as_str) {
         Some("charts") => return print_charts(best, &mut random),
         Some("pieces") => return print_pieces(best, &mut random),
-        word => assert_eq!(word, None, "charts, pieces or nothing"),
+        Some("logarithms") => return print_logarithms(best, &mut random),
+        word => assert_eq!(word, None, "charts, pieces, logarithms or nothing"),
     }
     println!("Searches by BIC, {N} readings a channel, minimum length 2:\n");
     head("µs");
@@ -111,13 +141,14 @@ fn main() {
         rows.push((sort, row));
     }
     searches::package(best, &mut random, N).print();
+    print_normal(best, &mut random);
     print_charts(best, &mut random);
     print_pieces(best, &mut random);
     println!("\nElementary functions, a thousand calls:\n");
     head("µs");
-    elementary::rows(best, &mut random)
-        .iter()
-        .for_each(Row::print);
+    let mut functions = elementary::rows(best, &mut random);
+    functions.extend(elementary::ln_rows(best, &mut random));
+    functions.iter().for_each(Row::print);
     println!("\nTimes at {N} readings over those at {SMALL}, which are 8 times fewer:\n");
     println!("| | ours | the Rust's |\n|---|---|---|");
     for (sort, row) in rows.iter().filter(|(sort, _)| sort.changes <= 16) {

@@ -110,29 +110,34 @@ fn rust(sort: Sort) -> pelt::Pelt {
     pelt::Pelt::new(cost, pelt::Penalty::Bic).expect("a search")
 }
 
+/// The times of a search of these channels, and how many cuts were found.
+fn timed(best: Best, sort: Sort, channels: &[Vec<f64>]) -> ((f64, f64), usize) {
+    let lengths: Vec<usize> = channels.iter().map(Vec::len).collect();
+    let readings = channels.concat();
+    let signals: Vec<&[f64]> = channels.iter().map(Vec::as_slice).collect();
+    let pelt = rust(sort);
+    let due = pelt
+        .detect_multi(&signals)
+        .expect("one length")
+        .changepoints;
+    let mut room = enough_room(sort, &readings, &lengths);
+    let (_, count) = room.search(sort, &readings, &lengths);
+    if room.cuts[..count] != due {
+        println!("{}: the cuts are not the Rust's", sort.name());
+    }
+    let mut work = || {
+        black_box(room.search(sort, black_box(&readings), &lengths));
+    };
+    let mut work_theirs = || drop(black_box(pelt.detect_multi(black_box(&signals))));
+    (best.of(&mut work, &mut work_theirs), count)
+}
+
 /// The times of a sort at n readings, and how many cuts were found.
 pub fn row(best: Best, random: &mut Random, n: usize, sort: Sort) -> (Row, usize) {
     let (mut ours, mut theirs, mut found) = (0.0, 0.0, 0);
     for _ in 0..SERIES {
-        let made = series(random, n, sort);
-        let (readings, lengths) = (made.concat(), vec![n; sort.channels]);
-        let signals: Vec<&[f64]> = made.iter().map(Vec::as_slice).collect();
-        let pelt = rust(sort);
-        let due = pelt
-            .detect_multi(&signals)
-            .expect("one length")
-            .changepoints;
-        let mut room = enough_room(sort, &readings, &lengths);
-        let (_, count) = room.search(sort, &readings, &lengths);
-        if room.cuts[..count] != due {
-            println!("{}: the cuts are not the Rust's", sort.name());
-        }
+        let (times, count) = timed(best, sort, &series(random, n, sort));
         found += count;
-        let mut work = || {
-            black_box(room.search(sort, black_box(&readings), &lengths));
-        };
-        let mut work_theirs = || drop(black_box(pelt.detect_multi(black_box(&signals))));
-        let times = best.of(&mut work, &mut work_theirs);
         ours += times.0;
         theirs += times.1;
     }
@@ -141,6 +146,17 @@ pub fn row(best: Best, random: &mut Random, n: usize, sort: Sort) -> (Row, usize
         Row::new(sort.name(), ours / many, theirs / many),
         found / SERIES,
     )
+}
+
+/// A Normal search of one channel of another kind, with its name.
+pub fn normal_row(best: Best, name: &str, channel: Vec<f64>) -> Row {
+    let sort = Sort {
+        normal: true,
+        channels: 1,
+        changes: 0,
+    };
+    let (times, found) = timed(best, sort, &[channel]);
+    Row::new(format!("{name} ({found} found)"), times.0, times.1)
 }
 
 /// All sorts of the table.

@@ -29,11 +29,16 @@ static void test_roots(void) {
 }
 
 static void test_logarithms(void) {
-    /* 1, 2, the number nearest to e, the smallest and the largest; the zeros, infinity, -1 and NaN */
+    /* 1, 2, the number nearest to e, the smallest and the largest; 3, 2^-1000, 2^33, 10 and four numbers next
+     * to ties or to powers of two, on which the last step turns; the zeros, infinity, -1 and NaN */
     static const struct row rows[] = {
         {0x3ff0000000000000, 0x0000000000000000}, {0x4000000000000000, 0x3fe62e42fefa39ef},
         {0x4005bf0a8b145769, 0x3ff0000000000000}, {0x0000000000000001, 0xc0874385446d71c3},
-        {0x7fefffffffffffff, 0x40862e42fefa39ef}, {0x0000000000000000, 0xfff0000000000000},
+        {0x7fefffffffffffff, 0x40862e42fefa39ef}, {0x4008000000000000, 0x3ff193ea7aad030b},
+        {0x0170000000000000, 0xc085a92d6d005c94}, {0x4200000000000000, 0x4036dfb516f20bbf},
+        {0x4024000000000000, 0x40026bb1bbb55516}, {0x405000000736f9be, 0x4010a2b2410969e2},
+        {0x41a000000a4e9f3e, 0x4032b70887c80ad6}, {0x40048b5e3c2dab12, 0x3fee2e42fedffff7},
+        {0x40048b5e3c37f0c1, 0x3fee2e42feeffff6}, {0x0000000000000000, 0xfff0000000000000},
         {0x8000000000000000, 0xfff0000000000000}, {0x7ff0000000000000, 0x7ff0000000000000},
         {0xbff0000000000000, 0x7ff8000000000000}, {0xfff8000000000000, 0x7ff8000000000000},
     };

@@ -137,7 +137,7 @@ static void test_step(void) {
 }
 
 static void test_penalties(void) {
-    const double level[] = {5, 5, 5, 5}, falling[] = {5, 3, 2, 0, 0};
+    const double level[] = {5, 5, 5, 5}, falling[] = {5, 3, 2, 0, 0}, rising[] = {2, 3, 4, 5, 6, 7, 8};
     struct search s = search_over(level, 4, 1, 2);
     s.kind = OVERBRINDLE_BIC;
     finds(HERE, BOTH, s, 0, nowhere);
@@ -146,6 +146,11 @@ static void test_penalties(void) {
     s.kind = OVERBRINDLE_BIC;
     s.penalty = NAN;
     finds(HERE, BOTH, s, 1, at_2);
+    /* Cuts that turn on the last step of the logarithm. */
+    s = search_over(rising, 7, 1, 0);
+    s.cost = OVERBRINDLE_NORMAL;
+    s.kind = OVERBRINDLE_BIC;
+    finds(HERE, BOTH, s, 2, at_2_and_4);
 }
 
 static void test_channels(void) {

@@ -29,8 +29,21 @@ pub fn powi(x: f64, n: u64) -> f64 {
     result
 }
 
+/// ln 2 in two parts: 0.6931471805599453 with its low 21 bits cleared, and the value nearest to what ln 2
+/// itself has beyond that.
+pub fn parts_of_ln_2() -> (f64, f64) {
+    let high = f64::from_bits(0.6931471805599453_f64.to_bits() >> 21 << 21);
+    (high, 7382048951581814.0 / (1u128 << 85) as f64)
+}
+
 /// The natural logarithm of `x`.
 pub fn ln(x: f64) -> f64 {
+    let (high, low) = parts_of_ln_2();
+    ln_by(x, |e, product| e * high + (product + e * low))
+}
+
+/// The same by another last step, which is given e and (2·s)·P.
+pub fn ln_by(x: f64, last_step: impl Fn(f64, f64) -> f64) -> f64 {
     if x.is_nan() || x < 0.0 {
         return f64::NAN;
     }
@@ -46,7 +59,7 @@ pub fn ln(x: f64) -> f64 {
         e += 1;
     }
     let s = (m - 1.0) / (m + 1.0);
-    f64::from(e) * 0.6931471805599453 + (2.0 * s) * series(s * s)
+    last_step(f64::from(e), (2.0 * s) * series(s * s))
 }
 
 /// M and e with `x` = M * 2^e and M in [1, 2), for an `x` that is finite and above zero.

@@ -26,6 +26,7 @@ pub fn powi(x: f64, n: u64) -> f64 {
 ///
 /// ```
 /// assert_eq!(overbrindle::ln(1.0), 0.0);
+/// assert_eq!(overbrindle::ln(3.0), 1.0986122886681098);
 /// ```
 pub fn ln(x: f64) -> f64 {
     c::overbrindle_ln(x)

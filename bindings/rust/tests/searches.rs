@@ -87,3 +87,11 @@ fn normal_finds_the_step_too() {
     let found = search.detect(&[0.0, 0.0, 4.0, 4.0]);
     assert_eq!(found.unwrap().changepoints, [2]);
 }
+
+/// With ln 2 in one part the cuts were at 3 and 5.
+#[test]
+fn cuts_that_turn_on_the_last_step_of_the_logarithm() {
+    let search = Pelt::new(CostFunction::Normal, Penalty::Bic).unwrap();
+    let found = search.detect(&[2.0, 3.0, 4.0, 5.0, 6.0, 7.0, 8.0]);
+    assert_eq!(found.unwrap().changepoints, [2, 4]);
+}

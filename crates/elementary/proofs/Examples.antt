@@ -15,9 +15,9 @@ roots : map (by-bits sqrt) (0x3ff0000000000000 ∷ 0x4000000000000000 ∷ 0x4008
 unfolding by-bits sqrt toBits ofBits
 roots = refl
 
--- 1, 2, the number nearest to e, 1.4142135623730951 and the next one, the smallest and the largest subnormal, the smallest normal, the largest, the last below 1; zeros, infinities, -1 and NaN
-logarithms : map (by-bits ln) (0x3ff0000000000000 ∷ 0x4000000000000000 ∷ 0x4005bf0a8b145769 ∷ 0x3ff6a09e667f3bcd ∷ 0x3ff6a09e667f3bce ∷ 0x1 ∷ 0xfffffffffffff ∷ 0x10000000000000 ∷ 0x7fefffffffffffff ∷ 0x3fefffffffffffff ∷ 0x0 ∷ 0x8000000000000000 ∷ 0x7ff0000000000000 ∷ 0xfff0000000000000 ∷ 0xbff0000000000000 ∷ 0xfff8000000000000 ∷ [])
-    ≡ 0x0 ∷ 0x3fe62e42fefa39ef ∷ 0x3ff0000000000000 ∷ 0x3fd62e42fefa39f1 ∷ 0x3fd62e42fefa39f3 ∷ 0xc0874385446d71c3 ∷ 0xc086232bdd7abcd2 ∷ 0xc086232bdd7abcd2 ∷ 0x40862e42fefa39ef ∷ 0xbca0000000000000 ∷ 0xfff0000000000000 ∷ 0xfff0000000000000 ∷ 0x7ff0000000000000 ∷ 0x7ff8000000000000 ∷ 0x7ff8000000000000 ∷ 0x7ff8000000000000 ∷ []
+-- 1, 2, the number nearest to e, 1.4142135623730951 and the next one, the smallest and the largest subnormal, the smallest normal, the largest, the last below 1, 3, 2 ^ -1000, 2 ^ 33; zeros, infinities, -1 and NaN
+logarithms : map (by-bits ln) (0x3ff0000000000000 ∷ 0x4000000000000000 ∷ 0x4005bf0a8b145769 ∷ 0x3ff6a09e667f3bcd ∷ 0x3ff6a09e667f3bce ∷ 0x1 ∷ 0xfffffffffffff ∷ 0x10000000000000 ∷ 0x7fefffffffffffff ∷ 0x3fefffffffffffff ∷ 0x4008000000000000 ∷ 0x0170000000000000 ∷ 0x4200000000000000 ∷ 0x0 ∷ 0x8000000000000000 ∷ 0x7ff0000000000000 ∷ 0xfff0000000000000 ∷ 0xbff0000000000000 ∷ 0xfff8000000000000 ∷ [])
+    ≡ 0x0 ∷ 0x3fe62e42fefa39ef ∷ 0x3ff0000000000000 ∷ 0x3fd62e42fefa39f1 ∷ 0x3fd62e42fefa39f3 ∷ 0xc0874385446d71c3 ∷ 0xc086232bdd7abcd2 ∷ 0xc086232bdd7abcd2 ∷ 0x40862e42fefa39ef ∷ 0xbca0000000000000 ∷ 0x3ff193ea7aad030b ∷ 0xc085a92d6d005c94 ∷ 0x4036dfb516f20bbf ∷ 0xfff0000000000000 ∷ 0xfff0000000000000 ∷ 0x7ff0000000000000 ∷ 0x7ff8000000000000 ∷ 0x7ff8000000000000 ∷ 0x7ff8000000000000 ∷ []
 unfolding by-bits toBits ofBits ln lnScaled lnOf series ratio add sub mul div lt ofInt size
 logarithms = refl
 

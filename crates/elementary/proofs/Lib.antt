@@ -4,3 +4,5 @@ pub mod RootBound
 pub mod RootSign
 pub mod Square
 pub mod LogarithmSign
+pub mod LnTwo
+pub mod LastStep

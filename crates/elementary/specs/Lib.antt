@@ -1,4 +1,5 @@
 pub mod Root
 pub mod Power
 pub mod Logarithm
+pub mod LnTwo
 pub mod Inner

@@ -10,9 +10,20 @@ unfoldable pub series : ℕ → Float → Float → Float
 series zero z P = P
 series (suc j) z P = series j z (P *ᶠ z +ᶠ ofWhole 1 /ᶠ ofWhole (2 * j + 1))
 
--- e·0.6931471805599453 + (2·s)·P, with z = s·s, and with P the sum that starts at 1/21
+-- ln 2 in two parts: 0.6931471805599453 with its low 21 bits cleared, and the value nearest to what ln 2 itself has beyond that
+abbrev pub lnTwoHigh : Float
+lnTwoHigh = ratio 2977044471 (2 ^ 32)
+
+abbrev pub lnTwoLow : Float
+lnTwoLow = ratio 7382048951581814 (2 ^ 85)
+
+-- the last step: `e` times the high part is added to the sum of (2·s)·P and `e` times the low part
+abbrev pub lastStep : Float → Float → Float → Float
+lastStep e s P = e *ᶠ lnTwoHigh +ᶠ (ofWhole 2 *ᶠ s *ᶠ P +ᶠ e *ᶠ lnTwoLow)
+
+-- by the last step, with z = s·s, and with P the sum that starts at 1/21
 unfoldable pub lnOf : ℤ → Float → Float
-lnOf e s = ofInt binary64 e *ᶠ ratio 6931471805599453 (10 ^ 16) +ᶠ ofWhole 2 *ᶠ s *ᶠ series 10 (s *ᶠ s) (ofWhole 1 /ᶠ ofWhole 21)
+lnOf e s = lastStep (ofInt binary64 e) s (series 10 (s *ᶠ s) (ofWhole 1 /ᶠ ofWhole 21))
 
 -- an `M` above 1.4142135623730951 is halved and `e` is one more; then s = (M - 1) / (M + 1)
 unfoldable pub lnScaled : Float → ℤ → Float

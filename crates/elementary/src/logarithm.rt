@@ -4,7 +4,7 @@ ghost use Prim.Native.Nat.{_≤_, _<_};
 ghost use lib.IntN.{pos, _-ℤ_};
 ghost use lib.Ieee.{binary64, ofInt};
 ghost use Rattle.floats.specs.Numbers.{_/ᶠ_, ofWhole};
-ghost use Rattle.elementary.specs.Logarithm.{series, lnOf, lnScaled, ln};
+ghost use Rattle.elementary.specs.Logarithm.{series, lastStep, lnOf, lnScaled, ln};
 use crate::parts::parts_of;
 use crate::parts::placed;
 
@@ -33,12 +33,23 @@ fn exponent(power: u64) -> f64
     ((power as i32) - 2096) as f64
 }
 
+// The last step of the logarithm of M * 2^e, from `e`, from `s`, which is (M - 1) / (M + 1), and from the
+// sum `p` for `s`. The two constants are the parts of ln 2: the first is short enough for its product with
+// `e` to be exact, and that product is added last, so that what is rounded before it is small.
+pub fn ln_last_step(e: f64, s: f64, p: f64) -> f64
+    ensures { λ r. ⌜ r ≡ lastStep e s p ⌝ }
+{
+    let high = f64::from_bits(0x3fe6_2e42_fee0_0000);
+    let low = f64::from_bits(0x3dea_39ef_3579_3c76);
+    e * high + (2.0 * s * p + e * low)
+}
+
 // The logarithm of M * 2^(power - 2096), from `power` and `s`, which is (M - 1) / (M + 1).
 fn summed(power: u64, s: f64) -> f64
     requires { ⌜ power ≤ 4096 ⌝ }
     ensures { λ r. ⌜ r ≡ lnOf (pos power -ℤ pos 2096) s ⌝ }
 {
-    exponent(power) * 0.6931471805599453 + 2.0 * s * series(s * s)
+    ln_last_step(exponent(power), s, series(s * s))
 }
 
 // The logarithm of `m` * 2^(power - 2096), for an `m` in [1, 2).

@@ -16,13 +16,13 @@ use lib.Ieee.Exact.{HasValue, round-exact}
 use lib.Ieee.Scale.{round-same}
 use lib.Ieee.Positive.{positive}
 use lib.Ieee.Bits.{is-true}
-use Rattle.floats.specs.Numbers.{_+ᶠ_, _*ᶠ_, _/ᶠ_, +0, ofWhole, ratio}
+use Rattle.floats.specs.Numbers.{_*ᶠ_, _/ᶠ_, +0, ofWhole, ratio}
 use Rattle.floats.proofs.Order.Laws.{lt→le, lt-then-le}
 use Rattle.floats.proofs.Order.Zero.{above-zero}
 use Rattle.floats.proofs.Order.Patterns as Patterns
 use Rattle.floats.proofs.Order.Patterns.{unsigned, pattern-order}
 use Rattle.elementary.specs.Inner.Parts.{countOf}
-use Rattle.elementary.specs.Logarithm.{series, lnOf, lnScaled, ln}
+use Rattle.elementary.specs.Logarithm.{series, lastStep, lnOf, lnScaled, ln}
 use Rattle.elementary.proofs.Laws.{Pattern, below, value, unit-fits, same-value, placed-is, count-high, pattern-below, less-is-no-nan, sig, exp, high-scaled, high-root, one-more, ln-of-value, ln-of-parts}
 use Rattle.logarithms.specs.Inner.Stages.{plain, exponentOf, quotientBy, quotientOf, Begun}
 
@@ -164,7 +164,7 @@ module _ (v : Float) (f : T (fits binary64 v)) (h : plain v ≡ true) where
   plain-number = less-is-no-nan v (ofBits binary64 0x7ff0_0000_0000_0000) (is-true _ (both .1))
 
   -- the logarithm of `v` from its exponent and its quotient
-  pub ln-plain : exponentOf v *ᶠ ratio 6931471805599453 (10 ^ 16) +ᶠ ofWhole 2 *ᶠ quotientOf v *ᶠ series 10 (quotientOf v *ᶠ quotientOf v) (ofWhole 1 /ᶠ ofWhole 21) ≡ ln v
+  pub ln-plain : lastStep (exponentOf v) (quotientOf v) (series 10 (quotientOf v *ᶠ quotientOf v) (ofWhole 1 /ᶠ ofWhole 21)) ≡ ln v
   unfolding lnOf exponentOf quotientOf
   ln-plain =
       let w : Pattern v pattern = pattern-below v f above high-bound in
@@ -174,9 +174,9 @@ module _ (v : Float) (f : T (fits binary64 v)) (h : plain v ≡ true) where
       ∙ by-sum pattern low-bound high-bound)
 
   -- the same as `joined` has it, with `s` for the quotient and `P` for the sum
-  pub ln-joined : (s P : Float) → s ≡ quotientOf v → Begun 0 s P → exponentOf v *ᶠ ratio 6931471805599453 (10 ^ 16) +ᶠ ofWhole 2 *ᶠ s *ᶠ P ≡ ln v
+  pub ln-joined : (s P : Float) → s ≡ quotientOf v → Begun 0 s P → lastStep (exponentOf v) s P ≡ ln v
   unfolding Begun series
   ln-joined s P e g =
-      ap (λ (z : Float). exponentOf v *ᶠ ratio 6931471805599453 (10 ^ 16) +ᶠ ofWhole 2 *ᶠ s *ᶠ z) g
-      ∙ ap (λ (z : Float). exponentOf v *ᶠ ratio 6931471805599453 (10 ^ 16) +ᶠ ofWhole 2 *ᶠ z *ᶠ series 10 (z *ᶠ z) (ofWhole 1 /ᶠ ofWhole 21)) e
+      ap (lastStep (exponentOf v) s) g
+      ∙ ap (λ (z : Float). lastStep (exponentOf v) z (series 10 (z *ᶠ z) (ofWhole 1 /ᶠ ofWhole 21))) e
       ∙ ln-plain

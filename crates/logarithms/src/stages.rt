@@ -27,7 +27,7 @@ fn joined(value: f64, s: f64, sum: f64) -> f64
     requires { ⌜ (plain value ≡ true) × Split value s × Begun 0 s sum ⌝ }
     ensures { λ r. ⌜ r ≡ ln value ⌝ }
 {
-    exponent(value) * 0.6931471805599453 + 2.0 * s * sum
+    elementary::ln_last_step(exponent(value), s, sum)
 }
 
 // Sets each of `values` to its logarithm, from its quotient in `ratios` and the sum for that in `sums`.

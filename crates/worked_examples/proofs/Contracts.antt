@@ -4,6 +4,7 @@ use mathlib.Core.Path.{_≡_, ap}
 use mathlib.Core.Bool.{Bool}
 use mathlib.Core.List.{List}
 use lib.Ieee.{Float}
+use Rattle.elementary.specs.Logarithm.{ln}
 use Rattle.refusals.specs.Said.{said}
 use Rattle.refusals.specs.declared.Answer.{Answer}
 use Rattle.charts.specs.declared.Heard.{Heard}
@@ -19,7 +20,7 @@ use Rattle.ewma.specs.declared.EwmaResult.{EwmaResult}
 use Rattle.search_answer.specs.Outcome.{Areas}
 use Rattle.pelt.specs.Detected.{detected}
 use Rattle.pelt.specs.declared.Pelt.{Pelt}
-use Rattle.worked_examples.specs.Calls.{search, cusum, cusumPoints, runLength, ewma, ewmaPoints, searched, sums, averages, points, heard, outcome}
+use Rattle.worked_examples.specs.Calls.{search, cusum, cusumPoints, runLength, ewma, ewmaPoints, logarithm, searched, sums, averages, points, heard, valued, outcome}
 
 -- ---- searches
 pub detected-outcome : (strict : Bool) (p : Pelt) (run : List Float) (lengths : List ℕ) (before after : Areas) (r : Answer) → _≡_ {A = Answer × Areas} (r, after) (detected strict p run lengths before)
@@ -47,3 +48,8 @@ ewma-points-outcome c xs entry exit r a = ap (λ (o : Answer × List ℕ). point
 pub heard-outcome : (c : Cusum) (level : Float) (asked : Sum) (r : Heard) → heardAs r ≡ RunLength.runLength c level asked → heard (heardAs r) ≡ outcome (runLength c level asked)
 unfolding outcome
 heard-outcome c level asked r a = ap heard a
+
+-- ---- logarithms
+pub logarithm-outcome : (x r : Float) → r ≡ ln x → valued r ≡ outcome (logarithm x)
+unfolding outcome
+logarithm-outcome x r a = ap valued a

@@ -42,7 +42,7 @@ use Rattle.ewma.specs.Chart as Ewma
 use Rattle.worked_examples.specs.Calls.{Call, Outcome, resolvedBy, outcome}
 use Rattle.worked_examples.specs.Rows.{Row, Hold, sumsFrom, averagesFrom, ballsFrom}
 use Rattle.worked_examples.specs.Marked.{markedRows}
-use Rattle.worked_examples.specs.Further.{functionalRows, slackRows, roundingRows, furtherRoundingRows, inequalityRows, noiseRows, penaltyRows, refusalRows, chartRows, settingRows, sideRows, editionRows, ballRows, furtherRows}
+use Rattle.worked_examples.specs.Further.{functionalRows, slackRows, roundingRows, furtherRoundingRows, inequalityRows, noiseRows, penaltyRows, refusalRows, chartRows, settingRows, sideRows, editionRows, ballRows, logarithmRows, furtherRows}
 
 -- an outcome, opened: to unfold it is to unfold all that the line names
 opened : Call → Outcome
@@ -61,8 +61,8 @@ opened call = outcome call
 -- ---- the tables
 
 -- how many rows there are: of the marked examples P8, P9 and P13 have two each
-pub sizes : (length markedRows ≡ 16) × (length furtherRows ≡ 133)
-unfolding markedRows furtherRows functionalRows inequalityRows noiseRows refusalRows chartRows settingRows sideRows editionRows ballRows slackRows penaltyRows roundingRows furtherRoundingRows
+pub sizes : (length markedRows ≡ 16) × (length furtherRows ≡ 142)
+unfolding markedRows furtherRows functionalRows inequalityRows noiseRows refusalRows chartRows settingRows sideRows editionRows ballRows slackRows penaltyRows roundingRows furtherRoundingRows logarithmRows
 sizes = (refl, refl)
 
 -- P1 to P13
@@ -127,19 +127,24 @@ further-rounding-rows : Hold furtherRoundingRows
 unfolding opened furtherRoundingRows
 further-rounding-rows = refl
 
+logarithm-rows : Hold logarithmRows
+unfolding opened logarithmRows
+logarithm-rows = refl
+
 -- all of them
 pub further : Hold furtherRows
 unfolding furtherRows
 further =
-    both functionalRows (inequalityRows ++ (noiseRows ++ (refusalRows ++ (chartRows ++ (settingRows ++ (sideRows ++ (editionRows ++ (ballRows ++ (slackRows ++ (penaltyRows ++ (roundingRows ++ furtherRoundingRows))))))))))) functional-rows
-    (both inequalityRows (noiseRows ++ (refusalRows ++ (chartRows ++ (settingRows ++ (sideRows ++ (editionRows ++ (ballRows ++ (slackRows ++ (penaltyRows ++ (roundingRows ++ furtherRoundingRows)))))))))) inequality-rows
-    (both noiseRows (refusalRows ++ (chartRows ++ (settingRows ++ (sideRows ++ (editionRows ++ (ballRows ++ (slackRows ++ (penaltyRows ++ (roundingRows ++ furtherRoundingRows))))))))) noise-rows
-    (both refusalRows (chartRows ++ (settingRows ++ (sideRows ++ (editionRows ++ (ballRows ++ (slackRows ++ (penaltyRows ++ (roundingRows ++ furtherRoundingRows)))))))) refusal-rows
-    (both chartRows (settingRows ++ (sideRows ++ (editionRows ++ (ballRows ++ (slackRows ++ (penaltyRows ++ (roundingRows ++ furtherRoundingRows))))))) chart-rows
-    (both settingRows (sideRows ++ (editionRows ++ (ballRows ++ (slackRows ++ (penaltyRows ++ (roundingRows ++ furtherRoundingRows)))))) setting-rows
-    (both sideRows (editionRows ++ (ballRows ++ (slackRows ++ (penaltyRows ++ (roundingRows ++ furtherRoundingRows))))) side-rows
-    (both editionRows (ballRows ++ (slackRows ++ (penaltyRows ++ (roundingRows ++ furtherRoundingRows)))) edition-rows
-    (both ballRows (slackRows ++ (penaltyRows ++ (roundingRows ++ furtherRoundingRows))) ball-rows
-    (both slackRows (penaltyRows ++ (roundingRows ++ furtherRoundingRows)) slack-rows
-    (both penaltyRows (roundingRows ++ furtherRoundingRows) penalty-rows
-    (both roundingRows furtherRoundingRows rounding-rows further-rounding-rows)))))))))))
+    both functionalRows (inequalityRows ++ (noiseRows ++ (refusalRows ++ (chartRows ++ (settingRows ++ (sideRows ++ (editionRows ++ (ballRows ++ (slackRows ++ (penaltyRows ++ (roundingRows ++ (furtherRoundingRows ++ logarithmRows)))))))))))) functional-rows
+    (both inequalityRows (noiseRows ++ (refusalRows ++ (chartRows ++ (settingRows ++ (sideRows ++ (editionRows ++ (ballRows ++ (slackRows ++ (penaltyRows ++ (roundingRows ++ (furtherRoundingRows ++ logarithmRows))))))))))) inequality-rows
+    (both noiseRows (refusalRows ++ (chartRows ++ (settingRows ++ (sideRows ++ (editionRows ++ (ballRows ++ (slackRows ++ (penaltyRows ++ (roundingRows ++ (furtherRoundingRows ++ logarithmRows)))))))))) noise-rows
+    (both refusalRows (chartRows ++ (settingRows ++ (sideRows ++ (editionRows ++ (ballRows ++ (slackRows ++ (penaltyRows ++ (roundingRows ++ (furtherRoundingRows ++ logarithmRows))))))))) refusal-rows
+    (both chartRows (settingRows ++ (sideRows ++ (editionRows ++ (ballRows ++ (slackRows ++ (penaltyRows ++ (roundingRows ++ (furtherRoundingRows ++ logarithmRows)))))))) chart-rows
+    (both settingRows (sideRows ++ (editionRows ++ (ballRows ++ (slackRows ++ (penaltyRows ++ (roundingRows ++ (furtherRoundingRows ++ logarithmRows))))))) setting-rows
+    (both sideRows (editionRows ++ (ballRows ++ (slackRows ++ (penaltyRows ++ (roundingRows ++ (furtherRoundingRows ++ logarithmRows)))))) side-rows
+    (both editionRows (ballRows ++ (slackRows ++ (penaltyRows ++ (roundingRows ++ (furtherRoundingRows ++ logarithmRows))))) edition-rows
+    (both ballRows (slackRows ++ (penaltyRows ++ (roundingRows ++ (furtherRoundingRows ++ logarithmRows)))) ball-rows
+    (both slackRows (penaltyRows ++ (roundingRows ++ (furtherRoundingRows ++ logarithmRows))) slack-rows
+    (both penaltyRows (roundingRows ++ (furtherRoundingRows ++ logarithmRows)) penalty-rows
+    (both roundingRows (furtherRoundingRows ++ logarithmRows) rounding-rows
+    (both furtherRoundingRows logarithmRows further-rounding-rows logarithm-rows))))))))))))

@@ -1,9 +1,10 @@
--- A call of a search or a chart, and what it comes to by the definitions that the contracts cite. Definitions only.
+-- A call of a search, a chart or the logarithm, and what it comes to by the definitions that the contracts cite. Definitions only.
 use Prim.Native.Nat.{ℕ}
 use mathlib.Core.Bool.{Bool}
 use mathlib.Core.List.{List}
 use lib.ListN.{length}
 use lib.Ieee.{Float}
+use Rattle.elementary.specs.Logarithm.{ln}
 use Rattle.refusals.specs.Said.{Said, said}
 use Rattle.readings.specs.Shape.{firstLength}
 use Rattle.charts.specs.declared.Sum.{Sum}
@@ -31,7 +32,7 @@ pub record Search : Type 0 where
   pub lengths : List ℕ
   pub areas : Areas
 
--- a search; its penalty; a chart's `analyze` and `signal_points`, with what they are lent; a run length; one ball more for a candidate that loses inside these
+-- a search; its penalty; a chart's `analyze` and `signal_points`, with what they are lent; a run length; one ball more for a candidate that loses inside these; a logarithm
 pub data Call : Type 0 where
   search : Search → Call
   resolve : Search → Call
@@ -41,8 +42,9 @@ pub data Call : Type 0 where
   ewma : Ewma → List Float → List EwmaResult → Call
   ewmaPoints : Ewma → List Float → List ℕ → Call
   lose : Ball → List Ball → Call
+  logarithm : Float → Call
 
--- ---- outcomes: what is said, and what is left of what was lent; a penalty; the balls that a candidate keeps
+-- ---- outcomes: what is said, and what is left of what was lent; a penalty; the balls that a candidate keeps; a value
 pub data Outcome : Type 0 where
   searched : Said → Areas → Outcome
   resolved : Float → Outcome
@@ -51,6 +53,7 @@ pub data Outcome : Type 0 where
   points : Said → List ℕ → Outcome
   heard : Said → Outcome
   losing : List Ball → Outcome
+  valued : Float → Outcome
 
 -- the penalty that the search resolves
 unfoldable pub resolvedBy : Search → Float
@@ -66,3 +69,4 @@ outcome (runLength c level asked) = heard (RunLength.runLength c level asked)
 outcome (ewma c xs entry) = let o = Ewma.analyzed c xs entry in averages (said (o .0)) (o .1)
 outcome (ewmaPoints c xs entry) = let o = Ewma.signalled c xs entry in points (said (o .0)) (o .1)
 outcome (lose b balls) = losing (loseInside b balls)
+outcome (logarithm x) = valued (ln x)

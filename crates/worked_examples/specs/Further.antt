@@ -1,4 +1,4 @@
--- Rows of our own, Q1 to Q133: each catches a wrong program that the worked examples let pass. Definitions only.
+-- Rows of our own, Q1 to Q142: each catches a wrong program that the worked examples let pass. Definitions only.
 use Prim.Native.Nat.{_-_, _*_, _^_}
 use mathlib.Core.Bool.{true, false}
 use mathlib.Core.List.{List, [], _∷_, _++_}
@@ -17,7 +17,7 @@ use Rattle.ewma.specs.Chart as Ewma
 use Rattle.ewma.specs.declared.Ewma.{Ewma}
 use Rattle.ewma.specs.declared.Edition.{Edition}
 use Rattle.ewma.specs.declared.Edition.the-variants.{First, Second}
-use Rattle.worked_examples.specs.Rows.{Row, wholes, tenBillionths, ofPattern, custom, halves, sevens, within, among, plainly, strictly, finds, runsOut, refuses, resolves, gapAt, sumsAre, averagesAre, sumsSignal, averagesSignal, sumsRefuse, averagesRefuse, hears, refusesToHear, ball, ballsFrom, keeps}
+use Rattle.worked_examples.specs.Rows.{Row, wholes, tenBillionths, ofPattern, custom, halves, sevens, within, among, plainly, strictly, finds, runsOut, refuses, resolves, gapAt, sumsAre, averagesAre, sumsSignal, averagesSignal, sumsRefuse, averagesRefuse, hears, refusesToHear, ball, ballsFrom, keeps, logarithmIs}
 use Rattle.worked_examples.specs.Marked.{step, gap, sums, averages}
 
 -- four readings alike
@@ -382,6 +382,29 @@ ballRows =
     ∷ keeps (ball 65 (ofWhole 2)) (ballsFrom 2 63 ++ (ball 1 (ofWhole 1) ∷ [])) (ballsFrom 2 63 ++ (ball 65 (ofWhole 2) ∷ []))
     ∷ []
 
+-- ---- the logarithm, whose last step has ln 2 in two parts
+unfoldable pub logarithmRows : List Row
+logarithmRows =
+    -- Q134 of 3: not with ln 2 in one part, nor with a low part that the rounded ln 2 leaves
+    logarithmIs 0x4008000000000000 0x3ff193ea7aad030b
+    -- Q135 of 2 ^ -1000
+    ∷ logarithmIs 0x0170000000000000 0xc085a92d6d005c94
+    -- Q136 of 2 ^ 33
+    ∷ logarithmIs 0x4200000000000000 0x4036dfb516f20bbf
+    -- Q137 of 10: the high part's product is added last
+    ∷ logarithmIs 0x4024000000000000 0x40026bb1bbb55516
+    -- Q138 next to a tie: the low part is no unit more
+    ∷ logarithmIs 0x405000000736f9be 0x4010a2b2410969e2
+    -- Q139 and no unit less
+    ∷ logarithmIs 0x41a000000a4e9f3e 0x4032b70887c80ad6
+    -- Q140 next to a power of two: 21 bits of the high part are cleared, and not 22
+    ∷ logarithmIs 0x40048b5e3c2dab12 0x3fee2e42fedffff7
+    -- Q141 and not 20
+    ∷ logarithmIs 0x40048b5e3c37f0c1 0x3fee2e42feeffff6
+    -- Q142 cuts that turn on it: with ln 2 in one part they are at 3 and 5
+    ∷ finds (plainly Normal Bic 2 (wholes (2 ∷ 3 ∷ 4 ∷ 5 ∷ 6 ∷ 7 ∷ 8 ∷ [])) 0) 2 (2 ∷ 4 ∷ 7 ∷ [])
+    ∷ []
+
 unfoldable pub furtherRows : List Row
 furtherRows =
-    functionalRows ++ (inequalityRows ++ (noiseRows ++ (refusalRows ++ (chartRows ++ (settingRows ++ (sideRows ++ (editionRows ++ (ballRows ++ (slackRows ++ (penaltyRows ++ (roundingRows ++ furtherRoundingRows)))))))))))
+    functionalRows ++ (inequalityRows ++ (noiseRows ++ (refusalRows ++ (chartRows ++ (settingRows ++ (sideRows ++ (editionRows ++ (ballRows ++ (slackRows ++ (penaltyRows ++ (roundingRows ++ (furtherRoundingRows ++ logarithmRows))))))))))))

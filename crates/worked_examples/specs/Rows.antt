@@ -25,7 +25,7 @@ use Rattle.pelt.specs.Detected.{withMinSegmentLen}
 use Rattle.search_rules.specs.Limits.{slotFloats}
 use Rattle.search_rules.specs.Room.{cutsFor, floatsFor, indicesFor}
 use Rattle.search_answer.specs.Outcome.{Areas}
-use Rattle.worked_examples.specs.Calls.{Search, Call, search, resolve, cusum, cusumPoints, runLength, ewma, ewmaPoints, lose, Outcome, searched, resolved, sums, averages, points, heard, losing, outcome}
+use Rattle.worked_examples.specs.Calls.{Search, Call, search, resolve, cusum, cusumPoints, runLength, ewma, ewmaPoints, lose, logarithm, Outcome, searched, resolved, sums, averages, points, heard, losing, valued, outcome}
 
 -- a call, and what it is to come to
 pub record Row : Type 0 where
@@ -167,3 +167,9 @@ ballsFrom centre (suc count) = ball centre (ofWhole centre) ∷ ballsFrom (suc c
 -- the balls that a candidate keeps once it loses inside one more
 abbrev pub keeps : Ball → List Ball → List Ball → Row
 keeps b balls kept = record { call = lose b balls; expected = losing kept }
+
+-- ---- logarithms
+
+-- by the bits of the value and of its logarithm
+abbrev pub logarithmIs : ℕ → ℕ → Row
+logarithmIs x result = record { call = logarithm (ofPattern x); expected = valued (ofPattern result) }

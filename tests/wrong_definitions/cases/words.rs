@@ -2,7 +2,7 @@
 //! stand in `WORDS`: a word that gets another name there gets it here, and nowhere else.
 
 use crate::naturals::{nearest, Natural};
-use crate::{Areas, Ball, Call, Chart, Cost, CusumResult, Edition, EwmaResult, Outcome};
+use crate::{Areas, Ball, Call, Chart, Cost, CusumResult, Edition, EwmaResult, Function, Outcome};
 use crate::{Penalty, Said, Search, Settings, Side, Stated, Sum};
 use std::rc::Rc;
 
@@ -120,6 +120,11 @@ pub static WORDS: &[Word] = &[
     ("keeps", 3, |v| {
         let call = Call::Lose(one_ball(&v[0]), balls(&v[1]));
         row(call, Outcome::Losing(balls(&v[2])))
+    }),
+    ("logarithmIs", 2, |v| {
+        let [x, result] = [0, 1].map(|i| f64::from_bits(size(&v[i]) as u64));
+        let call = Call::Elementary(Function::Ln, x, 0);
+        row(call, Outcome::Values(vec![result]))
     }),
 ];
 

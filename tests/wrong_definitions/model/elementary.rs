@@ -54,9 +54,18 @@ fn series(n: u32, z: f64, p: f64) -> f64 {
     (0..n).rev().fold(p, term)
 }
 
-/// e·0.6931471805599453 + (2·s)·P, with z = s·s and P from 1/21 on.
+/// ln 2 in two parts.
+const LN_TWO_HIGH: f64 = 2977044471.0 / (1u64 << 32) as f64;
+const LN_TWO_LOW: f64 = 7382048951581814.0 / (1u128 << 85) as f64;
+
+/// e times the high part is added to the sum of (2·s)·P and e times the low part.
+fn last_step(e: f64, s: f64, p: f64) -> f64 {
+    e * LN_TWO_HIGH + (2.0 * s * p + e * LN_TWO_LOW)
+}
+
+/// By the last step, with z = s·s and P from 1/21 on.
 fn ln_of(e: i32, s: f64) -> f64 {
-    f64::from(e) * 0.6931471805599453 + 2.0 * s * series(10, s * s, 1.0 / 21.0)
+    last_step(f64::from(e), s, series(10, s * s, 1.0 / 21.0))
 }
 
 /// An M above 1.4142135623730951 is halved and e is one more; then s = (M - 1) / (M + 1).

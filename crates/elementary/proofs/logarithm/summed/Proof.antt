@@ -1,7 +1,6 @@
 -- `elementary::logarithm::summed` meets its contract. Assumes nothing.
+use mathlib.Core.Path.{_∙_}
 use borrow.Author.Needs.{needs}
-use lib.Ieee.{ofInt, ofBits}
-use Rattle.floats.specs.Numbers.{ratio}
 use Rattle.elementary.specs.Logarithm.{lnOf}
 use Rattle.elementary.proofs.logarithm.summed.Statement.{statement}
 use Rattle.elementary.proofs.logarithm.summed.Tie as tie
@@ -12,9 +11,12 @@ exponent-requires c κs = search needs
 series-requires : tie.Need-series-requires
 series-requires c κs = search needs
 
+ln-last-step-requires : tie.Need-ln-last-step-requires
+ln-last-step-requires c κs = search needs
+
 returns : tie.Need-returns
-unfolding lnOf ratio ofInt ofBits
-returns c = rw (c .before .exponent .ensures, c .series .ensures)
+unfolding lnOf
+returns c = c .ln-last-step .ensures ∙ rw (c .before .before .exponent .ensures, c .before .series .ensures)
 
 pub summed-spec : {M : Type 1} → statement M
-summed-spec = tie.close (tie.spec exponent-requires series-requires returns)
+summed-spec = tie.close (tie.spec exponent-requires series-requires ln-last-step-requires returns)
