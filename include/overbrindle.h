@@ -190,8 +190,7 @@ double overbrindle_noise_variance(const double *channel, size_t channel_len,
     double *area, size_t area_len, size_t place);
 
 /* The square root, correctly rounded; x to the power n by right-to-left squaring; the natural
- * logarithm by the library's own rule, the same on every machine: ln 2 goes into it in two parts, and
- * the logarithm of 1 is +0. */
+ * logarithm by the library's own rule (4.3 of docs/RULES.md), the same on every machine, and +0 for 1. */
 double overbrindle_sqrt(double x);
 double overbrindle_powi(double x, uint64_t n);
 double overbrindle_ln(double x);
