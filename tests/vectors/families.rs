@@ -776,10 +776,29 @@ fn longest(random: &mut Random) -> Vec<Call> {
     calls
 }
 
+/// Readings that rise by even steps, for Normal by BIC: many totals are nearly equal, and the last digits of the
+/// logarithms decide where the cuts are.
+fn even_steps(random: &mut Random) -> Vec<Call> {
+    let mut calls = Vec::new();
+    for n in 5..=34 {
+        for m in [2, 3, 4] {
+            let ramp = |random: &mut Random| {
+                let (start, step) = (random.below(10), 1 + random.below(5));
+                (0..n).map(|i| (start + step * i) as f64).collect()
+            };
+            for channels in [1, 1, 1, 2, 3] {
+                let run = Run::new((0..channels).map(|_| ramp(random)).collect());
+                calls.push(run.any_call(random, at_least(NORMAL_BIC, m)));
+            }
+        }
+    }
+    calls
+}
+
 /// Makes some calls of a family.
 pub type Family = fn(&mut Random) -> Vec<Call>;
 
-pub const FAMILIES: [(&str, Family); 18] = [
+pub const FAMILIES: [(&str, Family); 19] = [
     ("all short series over a few values", short_series),
     ("series of each kind", of_each_kind),
     ("steps", steps),
@@ -798,4 +817,5 @@ pub const FAMILIES: [(&str, Family); 18] = [
     ("room for rounding", slack),
     ("penalties that are NaN", nan_penalties),
     ("the longest channels", longest),
+    ("even steps", even_steps),
 ];
