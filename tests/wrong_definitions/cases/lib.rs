@@ -183,8 +183,9 @@ pub enum Function {
     Finite,
 }
 
-/// What is asked. The first ones are those of `crates/worked_examples/specs/Calls.antt`; the others are what
-/// stored cases ask of the definitions that a search, a summary and the program are made of.
+/// What is asked. The first ones are those of `crates/worked_examples/specs/Calls.antt`, whose logarithm is an
+/// `Elementary`; the others are what stored cases ask of the definitions that a search, a summary and the
+/// program are made of.
 #[derive(Clone, Debug)]
 pub enum Call {
     Search(Search),
