@@ -16,14 +16,6 @@ use Rattle.ranges.specs.declared.Range.{Range}
 use Rattle.ranges.specs.Ranges.{lowestTo, highestTo, rangeOf}
 use Rattle.ranges.specs.Inner.Blocks.{beyond, Within, Taken}
 
-pub lowest-more : (xs : List Float) (i : ℕ) (m : Float) → m ≡ lowestTo xs i → smaller m (getD xs i nan) ≡ lowestTo xs (i + 1)
-unfolding lowestTo
-lowest-more xs i m e = rw (add-one, e)
-
-pub highest-more : (xs : List Float) (i : ℕ) (m : Float) → m ≡ highestTo xs i → larger m (getD xs i nan) ≡ highestTo xs (i + 1)
-unfolding highestTo
-highest-more xs i m e = rw (add-one, e)
-
 -- ---- neither the lowest nor the highest is NaN
 module _ (before : Float → Float → Bool) (number : (x y : Float) → before x y ≡ true → ne x x ≡ false) where
   -- `x` where it is `before` `m` or `m` is NaN, and `m` otherwise
@@ -72,6 +64,15 @@ highest-number : (xs : List Float) (i : ℕ) → ne (highestTo xs i) (highestTo 
 unfolding highestTo larger ne
 highest-number xs zero = refl
 highest-number xs (suc i) = pick-number (λ (x m : Float). lt m x) higher-number (highestTo xs i) (getD xs i nan) (highest-number xs i)
+
+-- ---- one more reading, by one comparison
+pub lowest-more : (xs : List Float) (i : ℕ) (m : Float) → m ≡ lowestTo xs i → cond (lt (getD xs i nan) m) (getD xs i nan) m ≡ lowestTo xs (i + 1)
+unfolding lowestTo smaller
+lowest-more xs i m e = rw (add-one, e, lowest-number xs i)
+
+pub highest-more : (xs : List Float) (i : ℕ) (m : Float) → m ≡ highestTo xs i → cond (lt m (getD xs i nan)) (getD xs i nan) m ≡ highestTo xs (i + 1)
+unfolding highestTo larger
+highest-more xs i m e = rw (add-one, e, highest-number xs i)
 
 -- ---- readings within the range
 -- an `f` that no step from `i` up to `i + n` changes is the same at both

@@ -4,13 +4,12 @@
 // its contract names (`specs/Ranges`). Blocks of readings that lie within the range so far are
 // passed over, which `specs/Inner/Blocks` says and `proofs/RangeLaws` shows to change nothing.
 ghost use mathlib.Core.Path.{_≡_};
-ghost use mathlib.Core.Bool.{false};
+ghost use mathlib.Core.Bool.{false, cond};
 ghost use Prim.Native.Nat.{_≤_, _<_};
 ghost use lib.ListN.{length};
+ghost use Rattle.floats.specs.Numbers.{_<ᶠ_};
 ghost use Rattle.ranges.specs.Inner.Blocks.{beyond, Within, Taken};
 ghost use Rattle.ranges.specs.Ranges.{rangeOf, about};
-use floats::max;
-use floats::min;
 
 // The lowest and the highest of some readings, `lo` and `hi`.
 pub struct Range {
@@ -44,7 +43,28 @@ fn is_beyond(reading: f64, lo: f64, hi: f64) -> bool
     (reading < lo) | (hi < reading)
 }
 
-// `range` with the readings `channel[start..end]` taken in. Cost: one turn for each of them.
+// The lower of `lo`, which is not NaN, and `reading`, and of equal ones `lo`. NaN is passed over.
+fn lower(lo: f64, reading: f64) -> f64
+    ensures { λ r. ⌜ r ≡ cond (reading <ᶠ lo) reading lo ⌝ }
+{
+    if reading < lo {
+        return reading;
+    }
+    lo
+}
+
+// The higher of `hi`, which is not NaN, and `reading`, in the same way.
+fn higher(hi: f64, reading: f64) -> f64
+    ensures { λ r. ⌜ r ≡ cond (hi <ᶠ reading) reading hi ⌝ }
+{
+    if hi < reading {
+        return reading;
+    }
+    hi
+}
+
+// `range` with the readings `channel[start..end]` taken in. Neither value of a range is ever NaN, so
+// that one comparison of each is enough. Cost: one turn for each of them.
 fn taken_in(channel: &[f64], start: usize, end: usize, range: Range) -> Range
     requires { ⌜ (start ≤ end) × (end ≤ length (now channel)) × Taken (now channel) start range ⌝ }
     ensures { λ r. ⌜ Taken (now (channel .entry)) end r ⌝ }
@@ -53,8 +73,8 @@ fn taken_in(channel: &[f64], start: usize, end: usize, range: Range) -> Range
     let mut hi = range.hi;
     let mut i = start;
     while i < end {
-        lo = min(lo, channel[i]);
-        hi = max(hi, channel[i]);
+        lo = lower(lo, channel[i]);
+        hi = higher(hi, channel[i]);
         i += 1;
     }
     Range { lo, hi }

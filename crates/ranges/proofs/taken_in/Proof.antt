@@ -18,23 +18,23 @@ abbrev μ-loop : tie.MeasureT-loop
 loop-holds : tie.Need-loop-holds Inv-loop μ-loop
 loop-holds c = (c .before .pre .0, c .before .pre .2 .lowest, c .before .pre .2 .highest)
 
-mul-min : tie.Need-mul-min Inv-loop μ-loop
-mul-min c = search needs
+mul-lower : tie.Need-mul-lower Inv-loop μ-loop
+mul-lower c = search needs
 
-shared-slice-read-min : tie.Need-shared-slice-read-min Inv-loop μ-loop
-shared-slice-read-min c = search needs
+shared-slice-read-lower : tie.Need-shared-slice-read-lower Inv-loop μ-loop
+shared-slice-read-lower c = search needs
 
-min-requires : tie.Need-min-requires Inv-loop μ-loop
-min-requires c κs = search needs
+lower-requires : tie.Need-lower-requires Inv-loop μ-loop
+lower-requires c κs = search needs
 
-mul-max : tie.Need-mul-max Inv-loop μ-loop
-mul-max c = search needs
+mul-higher : tie.Need-mul-higher Inv-loop μ-loop
+mul-higher c = search needs
 
-shared-slice-read-max : tie.Need-shared-slice-read-max Inv-loop μ-loop
-shared-slice-read-max c = search needs
+shared-slice-read-higher : tie.Need-shared-slice-read-higher Inv-loop μ-loop
+shared-slice-read-higher c = search needs
 
-max-requires : tie.Need-max-requires Inv-loop μ-loop
-max-requires c κs = search needs
+higher-requires : tie.Need-higher-requires Inv-loop μ-loop
+higher-requires c κs = search needs
 
 add-i : tie.Need-add-i Inv-loop μ-loop
 add-i c = search needs
@@ -43,7 +43,7 @@ loop-less : tie.Need-loop-less Inv-loop μ-loop
 loop-less c = search needs
 
 loop-again : tie.Need-loop-again Inv-loop μ-loop
-loop-again c = let l = c .before .before .before .before .before .loop in (omega arith, c .before .before .min .ensures ∙ lowest-more _ _ _ (l .inv .1), c .max .ensures ∙ highest-more _ _ _ (l .inv .2))
+loop-again c = let l = c .before .before .before .before .before .loop in (omega arith, c .before .before .lower .ensures ∙ lowest-more _ _ _ (l .inv .1), c .higher .ensures ∙ highest-more _ _ _ (l .inv .2))
 
 returns : tie.Need-returns Inv-loop μ-loop
 returns c = let l = c .before .loop in let e : l .i ≡ c .before .before .before .args .end = le-antisymm (l .inv .0) (c .loop-test .left) in record { lowest = l .inv .1 ∙ ap (lowestTo _) e; highest = l .inv .2 ∙ ap (highestTo _) e }
@@ -55,12 +55,12 @@ taken-in-spec =
     Inv-loop
     μ-loop
     loop-holds
-    mul-min
-    shared-slice-read-min
-    min-requires
-    mul-max
-    shared-slice-read-max
-    max-requires
+    mul-lower
+    shared-slice-read-lower
+    lower-requires
+    mul-higher
+    shared-slice-read-higher
+    higher-requires
     add-i
     loop-less
     loop-again
