@@ -8,9 +8,10 @@ use crate::edges;
 use crate::editions::{self, FIRST, SECOND};
 use crate::families::{self, any_settings, exhaustive, l2, normal, L2_BIC, NORMAL_BIC};
 use crate::inputs::Random;
+use crate::middles;
 use crate::noises::Noise;
 use crate::pieces::{self, Piece};
-use crate::runs::{self, kinds, quiet, SIZES};
+use crate::runs::{self, kinds, quiet, Run, SIZES};
 use crate::searches::Search;
 use crate::series::{self, SERIES_KINDS};
 use crate::{charted, charted::usual, series::Settings as ChartSettings};
@@ -33,7 +34,7 @@ const STORED_SHARES: [usize; 19] = [
     2_000, 6_000, 492, 62, 20_000,
 ];
 
-const DRAWN: [(&str, usize, Drawn); 15] = [
+const DRAWN: [(&str, usize, Drawn); 16] = [
     ("about every limit", 120_000, about_limits),
     ("about 4,096 readings", 260, about_longest),
     (
@@ -61,7 +62,14 @@ const DRAWN: [(&str, usize, Drawn); 15] = [
     ("numbers that name no edition", 4_000, unknown_editions),
     ("charts of 4,095 to 4,097 readings", 600, longest_charts),
     ("run lengths", 20_000, run_lengths),
-    ("noise variances", 30_000, noises),
+    ("noise variances", 30_000, |random| {
+        noises(random, runs::runs)
+    }),
+    (
+        "noise variances whose middle is hard to find",
+        12_000,
+        |random| noises(random, middles::of_any_length),
+    ),
     ("pieces", 60_000, all_pieces),
     ("pieces of nearly equal readings", 20_000, nearly_equal),
     ("pieces about 4,096 readings", 600, longest_pieces),
@@ -387,10 +395,10 @@ fn run_lengths(random: &mut Random) -> Vec<Case> {
     asked.map(case).collect()
 }
 
-/// A noise variance of each channel of the runs whose answers are stored; at times at a place that no area has.
-fn noises(random: &mut Random) -> Vec<Case> {
+/// A noise variance of each channel of these runs; at times at a place that no area has.
+fn noises(random: &mut Random, runs: fn(&mut Random) -> Vec<Run>) -> Vec<Case> {
     let mut cases = Vec::new();
-    for run in runs::runs(random) {
+    for run in runs(random) {
         for channel in run.channels {
             let place = match random.below(32) {
                 0 => pick(random, &[run.size, run.size + 1, usize::MAX]),

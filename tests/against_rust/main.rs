@@ -34,6 +34,9 @@ mod in_place;
 #[path = "../vectors/inputs.rs"]
 mod inputs;
 mod lending;
+#[allow(dead_code)]
+#[path = "../vectors/middles.rs"]
+mod middles;
 mod noises;
 #[allow(dead_code)]
 #[path = "../vectors/pieces.rs"]

@@ -27,7 +27,7 @@ fn ewma(lambda: f64, edition: u32) -> EwmaSettings {
 }
 
 /// Noise of about variance 1.
-fn bell(random: &mut Random) -> f64 {
+pub fn bell(random: &mut Random) -> f64 {
     (0..12).map(|_| fraction(random)).sum::<f64>() - 6.0
 }
 

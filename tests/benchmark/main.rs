@@ -6,6 +6,7 @@ mod elementary;
 #[allow(dead_code)]
 #[path = "../vectors/inputs.rs"]
 mod inputs;
+mod noise;
 mod pieces;
 mod searches;
 #[allow(dead_code)]
@@ -100,6 +101,17 @@ fn print_normal(best: Best, random: &mut Random) {
     thousandfold(vec![row("a thousand calls", short)]);
 }
 
+/// Noise variances of channels of every length and kind.
+fn print_noise(best: Best, random: &mut Random) {
+    println!("\nNoise variances, by kind and readings:\n");
+    head("ns");
+    for kind in noise::KINDS {
+        for n in noise::LENGTHS {
+            noise::row(best, random, kind, n).print();
+        }
+    }
+}
+
 /// Logarithms, by themselves and in searches.
 fn print_logarithms(best: Best, random: &mut Random) {
     println!("Normal searches by BIC, {N} readings a channel, minimum length 2:\n");
@@ -129,7 +141,8 @@ fn main() {
         Some("charts") => return print_charts(best, &mut random),
         Some("pieces") => return print_pieces(best, &mut random),
         Some("logarithms") => return print_logarithms(best, &mut random),
-        word => assert_eq!(word, None, "charts, pieces, logarithms or nothing"),
+        Some("noise") => return print_noise(best, &mut random),
+        word => assert_eq!(word, None, "charts, noise, pieces, logarithms or nothing"),
     }
     println!("Searches by BIC, {N} readings a channel, minimum length 2:\n");
     head("µs");
@@ -143,6 +156,7 @@ fn main() {
     searches::package(best, &mut random, N).print();
     print_normal(best, &mut random);
     print_charts(best, &mut random);
+    print_noise(best, &mut random);
     print_pieces(best, &mut random);
     println!("\nElementary functions, a thousand calls:\n");
     head("µs");

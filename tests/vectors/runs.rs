@@ -34,6 +34,17 @@ impl Run {
         }
     }
 
+    /// One channel, in an area that has a place for each difference and none to spare.
+    pub fn full(channel: Vec<f64>) -> Self {
+        let size = channel.len() - 1;
+        Run {
+            channels: vec![channel],
+            segments: Vec::new(),
+            place: 0,
+            size,
+        }
+    }
+
     /// In an area that is too short by a place.
     fn without_room(mut self) -> Self {
         self.place += 1;

@@ -25,6 +25,8 @@
 
 #[allow(dead_code)]
 mod inputs;
+#[allow(dead_code)]
+mod middles;
 mod pieces;
 #[allow(dead_code)]
 mod rules;
@@ -204,12 +206,8 @@ fn write_run(out: &mut impl Write, random: &mut Random, run: &Run) -> io::Result
     Ok(())
 }
 
-fn write_runs(out: &mut impl Write, random: &mut Random) -> io::Result<Vec<Run>> {
-    let runs = runs::runs(random);
-    for run in &runs {
-        write_run(out, random, run)?;
-    }
-    Ok(runs)
+fn write_runs(out: &mut impl Write, random: &mut Random, runs: &[Run]) -> io::Result<()> {
+    runs.iter().try_for_each(|run| write_run(out, random, run))
 }
 
 fn main() -> io::Result<()> {
@@ -218,9 +216,13 @@ fn main() -> io::Result<()> {
     let pieces = pieces::pieces(&mut random);
     write_pieces(&mut out, &pieces)?;
     let penalties = write_penalties(&mut out, &mut random)?;
-    let runs = write_runs(&mut out, &mut random)?;
+    let mut runs = runs::runs(&mut random);
+    write_runs(&mut out, &mut random, &runs)?;
     let nearly_equal = pieces::nearly_equal(&mut random);
     write_pieces(&mut out, &nearly_equal)?;
+    let middles = middles::runs(&mut random);
+    write_runs(&mut out, &mut random, &middles)?;
+    runs.extend(middles);
     out.write_all(&[&b"e"[..], &[0; 32]].concat())?;
     let channels: usize = runs.iter().map(|run| run.channels.len()).sum();
     let segments: usize = runs.iter().map(|run| run.segments.len()).sum();

@@ -6,7 +6,7 @@ use mathlib.Core.List.{List, [], _∷_, _++_}
 use native.Mathlib.Nat.{not-suc-le-zero, le-of-suc-le-suc}
 use native.Mathlib.Omega.{arith}
 use borrow.Author.Tests.{not-false}
-use lib.ListN.{length, getD, take, drop, take-append-drop}
+use lib.ListN.{length, getD, take}
 use lib.Seq.{take-suc, take-length}
 use native.Mathlib.Numerals.{add-one}
 use lib.Ieee.{Float, nan}
@@ -35,10 +35,6 @@ counted-out p xs i n e h t = rw add-one (omega (arith, e, count-more p xs i h �
 pub counted-all : (p : Float → Bool) (xs : List Float) (i n : ℕ) → n ≡ count p (take i xs) → i ≡ length xs → n ≡ count p xs
 counted-all p xs i n e h = e ∙ ap (count p) (ap (λ (k : ℕ). take k xs) h ∙ take-length xs)
 
--- of the first `i` values no more pass than of all
-pub count-front : (p : Float → Bool) (xs : List Float) (i : ℕ) → count p (take i xs) ≤ count p xs
-count-front p xs i = omega (arith, sym (count-append p (take i xs) (drop i xs)) ∙ ap (count p) (take-append-drop i xs))
-
 -- where every value at an index of at least `m` fails, at most `m` pass
 pub count-most : (p : Float → Bool) (xs : List Float) (m : ℕ) → ((i : ℕ) → m ≤ i → i < length xs → p (getD xs i nan) ≡ false) → count p xs ≤ m
 unfolding count
@@ -55,6 +51,10 @@ count-length p xs = count-most p xs (length xs) (λ i l h. absurd (beyond i l h)
   where
     beyond : (i : ℕ) → length xs ≤ i → i < length xs → ⊥
     beyond i l h = omega (arith, l, h)
+
+-- a loop that adds 1 or 0: one value more
+pub counted-more : (p : Float → Bool) (xs : List Float) (i n : ℕ) {m : ℕ} → n ≡ count p (take i xs) → i < length xs → m ≡ one (p (getD xs i nan)) → n + m ≡ count p (take (i + 1) xs)
+counted-more p xs i n e h f = rw add-one (omega (arith, e, f, count-more p xs i h))
 
 -- where the first `m` values pass, at least `m` do
 pub count-least : (p : Float → Bool) (xs : List Float) (m : ℕ) → m ≤ length xs → ((i : ℕ) → i < m → p (getD xs i nan) ≡ true) → m ≤ count p xs
@@ -103,3 +103,35 @@ count-implied p q (x ∷ xs) h = side (p x) refl (count-implied p q xs (λ i l. 
 -- of two lists `xs` and `ys` in which every test counts the same, every value of `ys` passes `p` where every one of `xs` does
 pub counts-each : {p : Float → Bool} {xs ys : List Float} → ((q : Float → Bool) → count q xs ≡ count q ys) → Each p xs → Each p ys
 counts-each {p} {xs} {ys} s h = record { each = λ i l. not-false (p (getD ys i nan)) (count-none (λ (v : Float). not (p v)) ys i (sym (s (λ (v : Float). not (p v))) ∙ each-not h) l) }
+
+-- ---- counts by two tests
+module _ (p q r : Float → Bool) where
+  pub count-parts : (xs : List Float) → ((y : Float) → one (p y) ≡ one (q y) + one (r y)) → count p xs ≡ count q xs + count r xs
+  unfolding count
+  count-parts [] h = refl
+  count-parts (x ∷ xs) h = omega (arith, h x, count-parts xs h)
+
+  pub count-either : (xs : List Float) → ((y : Float) → one (p y) ≤ one (q y) + one (r y)) → count p xs ≤ count q xs + count r xs
+  unfolding count
+  count-either [] h = zero-le
+  count-either (x ∷ xs) h = omega (arith, h x, count-either xs h)
+
+  pub count-apart : (xs : List Float) → ((y : Float) → one (q y) + one (r y) ≤ one (p y)) → count q xs + count r xs ≤ count p xs
+  unfolding count
+  count-apart [] h = zero-le
+  count-apart (x ∷ xs) h = omega (arith, h x, count-apart xs h)
+
+-- where every value of `xs` that passes `p` passes `q`, and one of them passes `q` alone, `q` counts more
+pub count-strict : (p q : Float → Bool) (xs : List Float) (i : ℕ) → ((y : Float) → p y ≡ true → q y ≡ true) → i < length xs → p (getD xs i nan) ≡ false → q (getD xs i nan) ≡ true → count p xs < count q xs
+unfolding count
+count-strict p q [] i h l e f = absurd (not-suc-le-zero l)
+count-strict p q (x ∷ xs) zero h l e f = rw (e, f) (omega (arith, count-weaker p q xs h))
+count-strict p q (x ∷ xs) (suc i) h l e f = side (p x) refl (count-strict p q xs i h (le-of-suc-le-suc l) e f)
+  where
+    side : (b : Bool) → p x ≡ b → count p xs < count q xs → one (p x) + count p xs < one (q x) + count q xs
+    side true t k = rw (t, h x t) (omega arith)
+    side false t k = rw t (omega arith)
+
+-- where each fails none passes
+pub count-never : (p : Float → Bool) (xs : List Float) → ((y : Float) → p y ≡ false) → count p xs ≡ 0
+count-never p xs h = omega (arith, count-most p xs 0 (λ i l k. h (getD xs i nan)))

@@ -1,9 +1,14 @@
 pub mod OrderLaws
 pub mod CountLaws
-pub mod MagnitudeLaws
 pub mod SortLaws
+pub mod MagnitudeLaws
 pub mod RankLaws
 pub mod MedianLaws
 pub mod Outcomes
+pub mod PassingLaws
+pub mod KeepingLaws
 pub mod KeptLaws
+pub mod RoundLaws
+pub mod EndLaws
+pub mod FewLaws
 pub mod BracketLaws

@@ -1,19 +1,22 @@
 -- Magnitudes that stand level in the order are one value. Assumes nothing.
 use Prim.Native.Nat.{ℕ, zero, suc, _+_, _-_, _*_, _/_, _^_}
-use mathlib.Core.Path.{_≡_, refl, sym, ap, _∙_}
+use mathlib.Core.Path.{_≡_, refl, sym, ap, _∙_, subst}
 use mathlib.Core.Bool.{Bool, true, false, not, cond, false≢true}
 use native.Mathlib.Omega.{arith}
 use borrow.Author.Tests.{ltb-false, not-true}
 use lib.Dec.{T, ltb}
-use lib.IntN.{ℤ}
-use lib.Ieee.{Float, nan, inf, fin, Format, binary64, prec, low, hid, top, up, down, size, lt, fits, sub, ofBits, toBits}
+use lib.IntN.{ℤ, pos}
+use lib.Ieee.{Float, nan, inf, fin, Format, binary64, prec, low, hid, top, up, down, size, lt, eq, fits, add, sub, neg, ofBits, toBits}
 use lib.Ieee.Bits.{is-true, ofBits-toBits}
-use lib.Ieee.Fits.{down-pos, sub-fits}
+use lib.Ieee.Fits.{down-pos, neg-fits, sub-fits}
 use lib.Ieee.Nearest.{div-same}
+use Rattle.floats.specs.Numbers.{_-ᶠ_, _<ᶠ_, +0}
 use Rattle.floats.specs.Finite.{abs}
+use Rattle.floats.proofs.Order.Zero.{some-below, some-above, some-differs, zero-equals}
+use Rattle.floats.proofs.Exact.{only-zero, zero-plus}
 use Rattle.floats.specs.Ahead.{ahead}
 use Rattle.medians.specs.Inner.Ranks.{magnitude}
-use Rattle.medians.proofs.OrderLaws.{holds, ahead-of-nan, ahead-of-number}
+use Rattle.medians.proofs.OrderLaws.{holds, lt-transitive, ahead-of-nan, ahead-of-number}
 
 -- numbers that are the same count of the smallest value have one pattern
 scaled : (a b c d w : ℕ) → a * d ≡ b * c → a * w * d ≡ b * w * c
@@ -68,3 +71,28 @@ abs-magnitude (fin s m e) h = is-true (fits binary64 (fin false m e)) (fits-clea
 
 pub difference-magnitude : (x y : Float) → magnitude (abs (sub binary64 x y)) ≡ true
 difference-magnitude x y = abs-magnitude (sub binary64 x y) (sub-fits binary64 x y)
+
+-- of a difference and its opposite, which is formed as +0 less the difference, the larger is the magnitude; of two zeros that is the second, +0
+some-nonzero : (t : Bool) (m : ℕ) (e : ℤ) → fin t (suc m) e ≡ fin true 0 (pos 0) → ⊥
+some-nonzero t m e q = false≢true (sym (some-differs t m e) ∙ ap (λ (x : Float). eq x +0) q ∙ zero-equals true (pos 0))
+
+opposite : (s : Bool) (m : ℕ) (e : ℤ) → T (fits binary64 (fin s (suc m) e)) → +0 -ᶠ fin s (suc m) e ≡ fin (not s) (suc m) e
+unfolding sub neg
+opposite s m e f = zero-plus (fin (not s) (suc m) e) (neg-fits binary64 (fin s (suc m) e) f) (some-nonzero (not s) m e)
+
+pub larger-opposite : (d : Float) → T (fits binary64 d) → cond ((+0 -ᶠ d) <ᶠ d) d (+0 -ᶠ d) ≡ abs d
+unfolding sub neg abs
+larger-opposite nan f = unfold add lt in refl
+larger-opposite (inf true) f = unfold add lt in refl
+larger-opposite (inf false) f = unfold add lt in refl
+larger-opposite (fin true zero e) f = subst (λ (d : Float). cond ((+0 -ᶠ d) <ᶠ d) d (+0 -ᶠ d) ≡ abs d) (sym (only-zero true e f)) (unfold add lt in refl)
+larger-opposite (fin false zero e) f = subst (λ (d : Float). cond ((+0 -ᶠ d) <ᶠ d) d (+0 -ᶠ d) ≡ abs d) (sym (only-zero false e f)) (unfold add lt in refl)
+larger-opposite (fin true (suc m) e) f = rw (opposite true m e f, above) refl
+  where
+    above : lt (fin false (suc m) e) (fin true (suc m) e) ≡ false
+    above = side (lt (fin false (suc m) e) (fin true (suc m) e)) refl
+      where
+        side : (b : Bool) → lt (fin false (suc m) e) (fin true (suc m) e) ≡ b → lt (fin false (suc m) e) (fin true (suc m) e) ≡ false
+        side false q = q
+        side true q = absurd (false≢true (sym (some-below false m e) ∙ lt-transitive (fin false (suc m) e) (fin true (suc m) e) +0 q (some-below true m e)))
+larger-opposite (fin false (suc m) e) f = rw (opposite false m e f, lt-transitive (fin true (suc m) e) +0 (fin false (suc m) e) (some-below true m e) (some-above false m e)) refl

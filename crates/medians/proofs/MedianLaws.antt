@@ -2,26 +2,24 @@
 use Prim.Native.Nat.{ℕ, _+_, _-_, _/_, _%_, _≤_, _<_}
 use mathlib.Core.Path.{_≡_, refl, sym, ap, _∙_, subst}
 use mathlib.Core.Bool.{Bool, true, false, false≢true, _&&_, and-false}
-use mathlib.Core.List.{List, [], _∷_, _++_}
-use native.Mathlib.Numerals.{add-one}
+use mathlib.Core.List.{List}
 use native.Mathlib.Omega.{arith}
 use borrow.Author.Tests.{lt-ltb, le-ltb, ltb-true, eqb-true, eq-eqb, ne-eqb}
 use lib.Dec.{ltb, eqb}
 use lib.ListN.{length, getD, set, take, replicate}
-use lib.Seq.{take-length, take-suc-set}
-use lib.Ieee.{Float, nan}
+use lib.Seq.{take-length}
+use lib.Ieee.{Float, nan, inf, fin, add, isNan}
 use Rattle.floats.specs.Numbers.{_+ᶠ_, _*ᶠ_, +0, ratio}
 use Rattle.areas.specs.Parts.{tab}
 use Rattle.areas.proofs.PartLaws.{tab-length, tab-at, tab-more}
 use Rattle.medians.specs.declared.Middles.{Middles}
 use Rattle.medians.specs.Median.{differenceAt, differences, median, fitsRun, Found}
-use Rattle.medians.specs.Inner.Ranks.{Each, magnitude, rankedOf, middlesOf}
+use Rattle.medians.specs.Inner.Ranks.{Each, magnitude, rankedOf, firstOf, secondOf, Middle}
 use Rattle.medians.proofs.MagnitudeLaws.{difference-magnitude}
+use Rattle.medians.proofs.RankLaws.{is-nan}
+use Rattle.medians.proofs.PassingLaws.{front-more}
 
--- ---- one more value of a front that is written
-pub front-more : {A : Type 0} (xs : List A) (i : ℕ) (v : A) (ys : List A) → i < length xs → take i xs ≡ ys → take (i + 1) (set xs i v) ≡ ys ++ (v ∷ [])
-front-more xs i v ys h e = rw add-one (take-suc-set xs i v h ∙ ap (λ (l : List _). l ++ (v ∷ [])) e)
-
+-- ---- the differences
 pub differences-more : (channel xs : List Float) (i : ℕ) (v : Float) → i < length xs → v ≡ differenceAt channel i → take i xs ≡ tab (differenceAt channel) i
     → take (i + 1) (set xs i v) ≡ tab (differenceAt channel) (i + 1)
 differences-more channel xs i v h d e = front-more xs i v (tab (differenceAt channel) i) h e ∙ (rw d (sym (tab-more (differenceAt channel) i)))
@@ -45,20 +43,33 @@ differences-magnitudes channel =
 pub differences-ready : (channel ys : List Float) (n : ℕ) → ys ≡ differences channel → n + 1 ≡ length channel → 0 < n → (0 < length ys) × Each magnitude ys
 differences-ready channel ys n e l h = (omega (arith, ap length e ∙ differences-length channel), subst (Each magnitude) (sym e) (differences-magnitudes channel))
 
--- ---- the middle values
-pub middles-found : (xs : List Float) {low high : Float} → low ≡ rankedOf xs ((length xs - 1) / 2) → high ≡ rankedOf xs (length xs / 2) → _≡_ {A = Middles} (record { low = low; high = high }) (middlesOf xs)
-unfolding middlesOf
-middles-found xs l h = rw (l, h)
+-- ---- the median of the middle values
+pub odd-median : (xs : List Float) (two : Middles) (n : ℕ) → Middle xs (firstOf (length xs)) (secondOf (length xs)) two → n ≡ length xs → n % 2 ≡ 1 → two .high ≡ median xs
+unfolding median
+odd-median xs two n t e h = t .high ∙ (rw (eq-eqb (length xs % 2) 1 (ap (λ (k : ℕ). k % 2) (sym e) ∙ h)))
 
-pub odd-median : (xs : List Float) (two : Middles) (n : ℕ) → two ≡ middlesOf xs → n ≡ length xs → n % 2 ≡ 1 → two .high ≡ median xs
-unfolding middlesOf median
-odd-median xs two n t e h = ap (λ (m : Middles). m .high) t ∙ (rw (eq-eqb (length xs % 2) 1 (ap (λ (k : ℕ). k % 2) (sym e) ∙ h)))
+-- a sum with NaN is NaN, whatever is added to it
+nan-sum : (x : Float) → x +ᶠ nan ≡ nan
+unfolding add
+nan-sum nan = refl
+nan-sum (inf s) = refl
+nan-sum (fin s m e) = refl
 
-pub even-median : (xs : List Float) (two : Middles) (n : ℕ) → two ≡ middlesOf xs → n ≡ length xs → (n % 2 ≡ 1 → ⊥) → ratio 1 2 *ᶠ (two .low +ᶠ two .high) ≡ median xs
-unfolding middlesOf median
+middle-sum : (xs : List Float) (first second : ℕ) (two : Middles) → Middle xs first second two → two .low +ᶠ two .high ≡ rankedOf xs first +ᶠ rankedOf xs second
+middle-sum xs first second two t = side (isNan (two .high)) refl
+  where
+    side : (b : Bool) → isNan (two .high) ≡ b → two .low +ᶠ two .high ≡ rankedOf xs first +ᶠ rankedOf xs second
+    side false e = rw (t .low e, t .high) refl
+    side true e =
+        let n = is-nan (two .high) e in
+        ap (λ (z : Float). two .low +ᶠ z) n ∙ nan-sum (two .low) ∙ sym (nan-sum (rankedOf xs first)) ∙ ap (λ (z : Float). rankedOf xs first +ᶠ z) (sym n ∙ t .high)
+
+pub even-median : (xs : List Float) (two : Middles) (n : ℕ) → Middle xs (firstOf (length xs)) (secondOf (length xs)) two → n ≡ length xs → (n % 2 ≡ 1 → ⊥) → ratio 1 2 *ᶠ (two .low +ᶠ two .high) ≡ median xs
+unfolding median
 even-median xs two n t e h =
-    let f : (length xs - 1) / 2 ≡ length xs / 2 - 1 = below (length xs) (subst (λ (k : ℕ). k % 2 ≡ 1 → ⊥) e h) in
-    ap (λ (m : Middles). ratio 1 2 *ᶠ (m .low +ᶠ m .high)) t ∙ (rw (ne-eqb (length xs % 2) 1 (subst (λ (k : ℕ). k % 2 ≡ 1 → ⊥) e h), f))
+    let f : firstOf (length xs) ≡ length xs / 2 - 1 = below (length xs) (subst (λ (k : ℕ). k % 2 ≡ 1 → ⊥) e h) in
+    ap (λ (z : Float). ratio 1 2 *ᶠ z) (middle-sum xs (firstOf (length xs)) (secondOf (length xs)) two t ∙ ap (λ (k : ℕ). rankedOf xs k +ᶠ rankedOf xs (length xs / 2)) f)
+    ∙ (rw (ne-eqb (length xs % 2) 1 (subst (λ (k : ℕ). k % 2 ≡ 1 → ⊥) e h)))
   where
     below : (k : ℕ) → (k % 2 ≡ 1 → ⊥) → (k - 1) / 2 ≡ k / 2 - 1
     below k g = omega arith

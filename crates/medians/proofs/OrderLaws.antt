@@ -1,6 +1,6 @@
 -- The order of differences is a strict weak one: of two values at most one is ahead of the other, and to be level is transitive. Assumes nothing.
-use mathlib.Core.Path.{_≡_, refl, sym, _∙_, subst}
-use mathlib.Core.Bool.{Bool, true, false, not, _||_, true≢false, false≢true}
+use mathlib.Core.Path.{_≡_, refl, sym, ap, _∙_, subst}
+use mathlib.Core.Bool.{Bool, true, false, not, _||_, cond, true≢false, false≢true}
 use lib.Dec.{T}
 use lib.Ieee.{Float, nan, inf, fin, lt, isNan}
 use lib.Ieee.Bits.{is-true}
@@ -10,8 +10,22 @@ use Rattle.floats.specs.Ahead.{ahead}
 pub holds : {b : Bool} → b ≡ true → T b
 holds e = subst T (sym e) tt
 
-fails : {b : Bool} → b ≡ false → T (not b)
+pub fails : {b : Bool} → b ≡ false → T (not b)
 fails e = rw e tt
+
+pub lt-transitive : (x y z : Float) → lt x y ≡ true → lt y z ≡ true → lt x z ≡ true
+lt-transitive x y z e f = is-true (lt x z) (lt-then-le x y z (holds e) (lt→le y z (holds f)))
+
+-- of two values the one that a test picks passes what both pass
+pub picked : (p : Float → Bool) (b : Bool) (x y : Float) → p x ≡ true → p y ≡ true → p (cond b x y) ≡ true
+picked p true x y f g = f
+picked p false x y f g = g
+
+pub lower-picked : (p : Float → Bool) (x y : Float) {r : Float} → r ≡ cond (lt x y) x y → p x ≡ true → p y ≡ true → p r ≡ true
+lower-picked p x y e f g = ap p e ∙ picked p (lt x y) x y f g
+
+pub upper-picked : (p : Float → Bool) (x y : Float) {r : Float} → r ≡ cond (lt x y) y x → p x ≡ true → p y ≡ true → p r ≡ true
+upper-picked p x y e f g = ap p e ∙ picked p (lt x y) y x g f
 
 -- ---- ahead of a number, and ahead of NaN
 number-not-nan : (x : Float) → T (number x) → isNan x ≡ false

@@ -1,7 +1,7 @@
 -- The value of a rank, by counts and by patterns. Assumes nothing.
-use Prim.Native.Nat.{ℕ, zero, suc, _+_, _≤_, _<_}
+use Prim.Native.Nat.{ℕ, suc, _+_, _≤_, _<_}
 use mathlib.Core.Path.{_≡_, refl, sym, ap, _∙_}
-use mathlib.Core.Bool.{Bool, true, false, not, _&&_, false≢true, true≢false}
+use mathlib.Core.Bool.{Bool, true, false, not, false≢true, true≢false}
 use mathlib.Core.List.{List}
 use native.Mathlib.Omega.{arith}
 use borrow.Author.Tests.{ltb-true, ltb-false, le-ltb}
@@ -17,9 +17,10 @@ use native.Mathlib.Nat.{le-refl, le-trans, lt-of-lt-of-le}
 use Rattle.floats.proofs.Order.Laws.{number}
 use Rattle.floats.proofs.Order.Patterns.{unsigned, pattern-order, pattern-most, pattern-of}
 use Rattle.medians.specs.Order.{sorted}
-use Rattle.medians.specs.Inner.Ranks.{count, Each, magnitude, countBelow, numbers, rankedOf, highest, Near}
+use Rattle.medians.specs.Inner.Ranks.{count, Each, magnitude, numbers, rankedOf, highest, Near}
+use Rattle.medians.specs.Inner.Rounds.{InOrder}
 use Rattle.medians.proofs.OrderLaws.{holds, ahead-of-number, ahead-of-later}
-use Rattle.medians.proofs.CountLaws.{count-most, count-least, count-implied, counts-each}
+use Rattle.medians.proofs.CountLaws.{count-length, count-most, count-least, count-implied, counts-each}
 use Rattle.medians.proofs.MagnitudeLaws.{level-equal}
 use Rattle.medians.proofs.SortLaws.{sorted-rising, sorted-count, sorted-length, rising-at, still-ahead}
 
@@ -60,16 +61,29 @@ module _ (xs : List Float) (k : ℕ) (v : Float) (inside : k < length xs) (few :
   unfolding w
   by-counts m g = level-equal v (rankedOf xs k) g (counts-each (λ q. sorted-count q xs) m .each k in-sorted) not-ahead not-behind
 
--- the value of the rank `k` has at most `k` values ahead of it, and more that are not behind it
+-- of values in order, the one at the index `k` has at most `k` values ahead of it and more that are not behind it, so it is the value of the rank `k`
+module _ (xs ys : List Float) (o : InOrder xs ys) (k : ℕ) (inside : k < length ys) where
+  pub place-few : count (λ (y : Float). ahead y (getD ys k nan)) xs ≤ k
+  place-few = omega (arith, o .same (λ (y : Float). ahead y (getD ys k nan)), count-most (λ (y : Float). ahead y (getD ys k nan)) ys k (λ i l h. rising-at ys (o .rising) k i l h))
+
+  pub place-many : k < count (λ (y : Float). not (ahead (getD ys k nan) y)) xs
+  place-many = omega (arith, o .same (λ (y : Float). not (ahead (getD ys k nan) y)), count-least (λ (y : Float). not (ahead (getD ys k nan) y)) ys (suc k) (omega (arith, inside)) (λ i l. ap not (rising-at ys (o .rising) i k (omega (arith, l)) inside)))
+
+  pub place-ranked : Each magnitude xs → getD ys k nan ≡ rankedOf xs k
+  place-ranked m = by-counts xs k (getD ys k nan) (lt-of-lt-of-le place-many (count-length (λ (y : Float). not (ahead (getD ys k nan) y)) xs)) place-few place-many m (counts-each (λ p. sym (o .same p)) m .each k inside)
+
 module _ (xs : List Float) (k : ℕ) (inside : k < length xs) where
-  in-order : k < length (sorted xs)
-  in-order = omega (arith, inside, sorted-length xs)
+  in-order : InOrder xs (sorted xs)
+  in-order = record { rising = sorted-rising xs; same = λ p. sym (sorted-count p xs) }
+
+  in-place : k < length (sorted xs)
+  in-place = omega (arith, inside, sorted-length xs)
 
   pub ranked-few : count (λ (y : Float). ahead y (rankedOf xs k)) xs ≤ k
-  ranked-few = rw (sorted-count (λ (y : Float). ahead y (rankedOf xs k)) xs) (count-most (λ (y : Float). ahead y (rankedOf xs k)) (sorted xs) k (λ i l h. rising-at (sorted xs) (sorted-rising xs) k i l h))
+  ranked-few = place-few xs (sorted xs) in-order k in-place
 
   pub ranked-many : k < count (λ (y : Float). not (ahead (rankedOf xs k) y)) xs
-  ranked-many = rw (sorted-count (λ (y : Float). not (ahead (rankedOf xs k) y)) xs) (count-least (λ (y : Float). not (ahead (rankedOf xs k) y)) (sorted xs) (suc k) (omega (arith, in-order)) (λ i l. ap not (rising-at (sorted xs) (sorted-rising xs) i k (omega (arith, l)) in-order)))
+  ranked-many = place-many xs (sorted xs) in-order k in-place
 
 -- ---- by patterns
 record Held (y : Float) : Type 0 where
@@ -82,11 +96,17 @@ held-number nan m n = absurd (true≢false n)
 held-number (inf s) m n = record { clear = m; held = inf-fits binary64 s }
 held-number (fin s k e) m n = let b = both (not s) (fits binary64 (fin s k e)) m in record { clear = b .0; held = holds (b .1) }
 
-is-number : (x : Float) → isNan x ≡ false → T (number x)
+pub is-number : (x : Float) → isNan x ≡ false → T (number x)
 unfolding isNan
 is-number nan e = absurd (true≢false e)
 is-number (inf s) e = tt
 is-number (fin s m k) e = tt
+
+pub is-nan : (x : Float) → isNan x ≡ true → x ≡ nan
+unfolding isNan
+is-nan nan e = refl
+is-nan (inf s) e = absurd (false≢true e)
+is-nan (fin s m k) e = absurd (false≢true e)
 
 -- a number is below the value of the pattern `p` where its own pattern is lower
 pub below-pattern : (y : Float) (p : ℕ) → magnitude y ≡ true → isNan y ≡ false → p ≤ highest → lt y (ofBits binary64 p) ≡ ltb (toBits binary64 y) p
@@ -123,7 +143,7 @@ none-below-zero y m = side (isNan y) refl
     side true n = nan-below-none y (ofBits binary64 0) n
     side false n = below-pattern y 0 m n (omega arith) ∙ le-ltb (toBits binary64 y) 0 (omega arith)
 
-pattern-magnitude : (p : ℕ) → p ≤ highest → magnitude (ofBits binary64 p) ≡ true
+pub pattern-magnitude : (p : ℕ) → p ≤ highest → magnitude (ofBits binary64 p) ≡ true
 unfolding magnitude unsigned
 pattern-magnitude p h = let b = pattern-of p h in value (ofBits binary64 p) (b .clear) (b .held)
   where
@@ -131,10 +151,6 @@ pattern-magnitude p h = let b = pattern-of p h in value (ofBits binary64 p) (b .
     value nan c f = refl
     value (inf s) c f = c
     value (fin s k e) c f = rw (c, is-true (fits binary64 (fin s k e)) f) refl
-
--- the values of two patterns stand in the order of the patterns
-pub pattern-below : (p q : ℕ) → p ≤ highest → q ≤ highest → lt (ofBits binary64 p) (ofBits binary64 q) ≡ ltb p q
-pattern-below p q h k = let b = pattern-of p h in below-pattern (ofBits binary64 p) q (pattern-magnitude p h) (b .number) k ∙ ap (λ (x : ℕ). ltb x q) (b .back)
 
 nan-magnitude : magnitude nan ≡ true
 unfolding magnitude
@@ -149,11 +165,16 @@ equals-itself y n = side (eq y y) (differs-from-itself y)
     side true f = refl
     side false f = absurd (true≢false (sym (ap isNan (f tt)) ∙ n))
 
-itself-number : (y : Float) → eq y y ≡ true → isNan y ≡ false
+pub itself-number : (y : Float) → eq y y ≡ true → isNan y ≡ false
 unfolding eq isNan
 itself-number nan e = absurd (false≢true e)
 itself-number (inf s) e = refl
 itself-number (fin s m d) e = refl
+
+pub number-itself : (y : Float) → T (number y) → eq y y ≡ true
+number-itself nan h = absurd h
+number-itself (inf s) h = equals-itself (inf s) (unfold isNan in refl)
+number-itself (fin s m d) h = equals-itself (fin s m d) (unfold isNan in refl)
 
 within : (a b : ℕ) → a < b + 1 → a ≤ b
 within a b h = omega (arith, h)

@@ -6,11 +6,17 @@
 // differences in order.
 //
 // How the middle differences are found is the crate's own affair: `middles` alone stands between the
-// median and the search for a rank, and no public contract says how it is made. A rank counts from 0:
-// the value of rank r stands at the index r of the values in order.
+// median and the search, and no public contract says how it is made. A rank counts from 0: the value of
+// rank r stands at the index r of the values in order. Each round splits what is left of `run` by a
+// pivot and keeps the part that has the two middle ranks, at the front of the same floats.
+mod ends;
+mod few;
 mod middle;
 mod narrow;
+mod partition;
+mod pivot;
 mod rank;
+mod rounds;
 
 pub use middle::median_difference;
 
@@ -21,11 +27,22 @@ struct Middles {
     high: f64,
 }
 
-// Two bit patterns, `low` and `high`, between which the value that is looked for lies, `low` included,
-// and how many values are below each, `under` and `upto`.
+// What is left of some values: the first `size` floats of their run, and the ranks `first` and `second`
+// among those of the two values that are looked for.
+struct Left {
+    size: usize,
+    first: usize,
+    second: usize,
+}
+
+// How many values are below a pivot, `below`, and how many are not above it, `upto`.
+struct Counts {
+    below: usize,
+    upto: usize,
+}
+
+// Two bit patterns, `low` and `high`, between which the value that is looked for lies, `low` included.
 struct Bracket {
     low: u64,
     high: u64,
-    under: usize,
-    upto: usize,
 }

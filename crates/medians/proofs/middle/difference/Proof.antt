@@ -21,23 +21,23 @@ loop-holds : tie.Need-loop-holds Inv-loop μ-loop
 unfolding tab
 loop-holds c = (search needs, refl, c .before .before .pre, refl)
 
-add-abs : tie.Need-add-abs Inv-loop μ-loop
-add-abs c = search needs
+add-apart : tie.Need-add-apart Inv-loop μ-loop
+add-apart c = search needs
 
-mul-abs : tie.Need-mul-abs Inv-loop μ-loop
-mul-abs c = search needs
+mul-apart : tie.Need-mul-apart Inv-loop μ-loop
+mul-apart c = search needs
 
-shared-slice-read-abs : tie.Need-shared-slice-read-abs Inv-loop μ-loop
-shared-slice-read-abs c = search needs
+shared-slice-read-apart : tie.Need-shared-slice-read-apart Inv-loop μ-loop
+shared-slice-read-apart c = search needs
 
-mul-abs-2 : tie.Need-mul-abs-2 Inv-loop μ-loop
-mul-abs-2 c = search needs
+mul-apart-2 : tie.Need-mul-apart-2 Inv-loop μ-loop
+mul-apart-2 c = search needs
 
-shared-slice-read-abs-2 : tie.Need-shared-slice-read-abs-2 Inv-loop μ-loop
-shared-slice-read-abs-2 c = search needs
+shared-slice-read-apart-2 : tie.Need-shared-slice-read-apart-2 Inv-loop μ-loop
+shared-slice-read-apart-2 c = search needs
 
-abs-requires : tie.Need-abs-requires Inv-loop μ-loop
-abs-requires c κs = search needs
+apart-requires : tie.Need-apart-requires Inv-loop μ-loop
+apart-requires c κs = search needs
 
 mul-run : tie.Need-mul-run Inv-loop μ-loop
 mul-run c = search needs
@@ -59,7 +59,7 @@ loop-again c =
       simp length-set (omega arith),
       simp length-set (inv .1),
       simp length-set (inv .2),
-      differences-more channel _ _ _ (c .before .before .before .loop-test .taken) (c .abs .ensures) (inv .3),
+      differences-more channel _ _ _ (c .before .before .before .loop-test .taken) (c .apart .ensures) (inv .3),
     )
 
 same-length : tie.Need-same-length Inv-loop μ-loop
@@ -80,12 +80,12 @@ difference-spec =
     Inv-loop
     μ-loop
     loop-holds
-    add-abs
-    mul-abs
-    shared-slice-read-abs
-    mul-abs-2
-    shared-slice-read-abs-2
-    abs-requires
+    add-apart
+    mul-apart
+    shared-slice-read-apart
+    mul-apart-2
+    shared-slice-read-apart-2
+    apart-requires
     mul-run
     slice-write-run
     add-i

@@ -1,39 +1,31 @@
 -- `medians::narrow::narrowed` meets its contract: each turn leaves fewer patterns. Assumes nothing.
-use mathlib.Core.Path.{sym, _∙_}
-use Prim.Native.Nat.{_<_, _-_}
+use Prim.Native.Nat.{_-_}
 use native.Mathlib.Omega.{arith}
-use borrow.Author.Needs.{needs}
-use lib.Dec.{ltb}
-use borrow.Author.Tests.{ltb-true}
-use Rattle.logic.proofs.Laws.{both}
 use Rattle.medians.specs.Inner.Ranks.{Around}
+use borrow.Author.Needs.{needs}
 use Rattle.medians.proofs.narrow.narrowed.Statement.{statement}
 use Rattle.medians.proofs.narrow.narrowed.Tie as tie
 
 abbrev Inv-loop : tie.InvT-loop
-Inv-loop run place patterns values b₀ b = Around run place b
+Inv-loop run place b₀ b = Around run place b
 
 abbrev μ-loop : tie.MeasureT-loop
-μ-loop run place patterns values b₀ b = b .high - b .low
+μ-loop run place b₀ b = b .high - b .low
 
 loop-holds : tie.Need-loop-holds Inv-loop μ-loop
-loop-holds c = c .before .pre .0
+loop-holds c = c .before .pre
 
-is-wide-requires : tie.Need-is-wide-requires Inv-loop μ-loop
-is-wide-requires c κs = search needs
+sub-if1 : tie.Need-sub-if1 Inv-loop μ-loop
+sub-if1 c = omega (arith, c .before .loop .inv .apart)
 
 sub-split : tie.Need-sub-split Inv-loop μ-loop
-sub-split c = search needs
+sub-split c = omega (arith, c .before .before .before .loop .inv .apart)
 
 add-split : tie.Need-add-split Inv-loop μ-loop
 add-split c = search needs
 
 split-requires : tie.Need-split-requires Inv-loop μ-loop
-split-requires c κs =
-    let b = c .before .before .before .before .loop .b in
-    let w = both (ltb (c .before .before .before .before .before .before .args .patterns) (b .high - b .low)) _ (sym (c .before .before .before .is-wide .ensures) ∙ c .before .before .if1 .taken) in
-    let h : c .before .before .before .before .before .before .args .patterns < b .high - b .low = ltb-true _ _ (w .0) in
-    (c .before .before .before .before .loop .inv, omega (arith, h, c .before .before .before .before .before .before .pre .1), omega (arith, h, c .before .before .before .before .before .before .pre .1))
+split-requires c κs = search needs
 
 loop-less : tie.Need-loop-less Inv-loop μ-loop
 loop-less c = search needs
@@ -42,7 +34,7 @@ loop-again : tie.Need-loop-again Inv-loop μ-loop
 loop-again c = search needs
 
 returns : tie.Need-returns Inv-loop μ-loop
-returns c = (c .before .before .loop .inv, sym (c .before .is-wide .ensures) ∙ c .if1 .left)
+returns c = (c .before .before .loop .inv, c .if1 .left)
 
 pub narrowed-spec : {M : Type 1} → statement M
 narrowed-spec =
@@ -51,7 +43,7 @@ narrowed-spec =
     Inv-loop
     μ-loop
     loop-holds
-    is-wide-requires
+    sub-if1
     sub-split
     add-split
     split-requires
