@@ -2,6 +2,8 @@
 //
 // No function asks anything of its caller: a part that reaches past the area's end is clipped to the
 // area. `specs/Cleared` says what an area holds afterwards; `specs/Parts` says what a part of it is.
+#![tactic(auto)]
+
 mod clear;
 
 pub use clear::{clear_floats, clear_indices};

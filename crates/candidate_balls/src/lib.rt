@@ -4,12 +4,14 @@
 //
 // No public function asks anything of its caller: where the area has no room for the runs, nothing is
 // done. Each result, and each area afterwards, is to the bit what `specs/Losing` says.
+#![tactic(auto)]
+
 mod balls;
 
 pub use balls::{has_room, lose_inside};
 
 // A centre, with a number for each channel, and the square of a radius.
-#[derive(Drop)]
+#[derive(Clone, Copy)]
 pub struct Ball {
     pub centre: [f64; 2],
     pub r2: f64,

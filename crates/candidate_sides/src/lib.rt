@@ -4,6 +4,8 @@
 //
 // No function asks anything of its caller. Each result is to the bit what the definition says that
 // its contract names: `specs/Reach` for what a ball reaches, `specs/Slabs` for what it cuts.
+#![tactic(auto)]
+
 mod reach;
 mod slabs;
 
@@ -11,7 +13,7 @@ pub use reach::narrowed;
 pub use slabs::{cut_by_root, cut_span, far2};
 
 // From its low end to its high end; nothing is left of it where `hi` is below `lo`.
-#[derive(Drop)]
+#[derive(Clone, Copy)]
 pub struct Span {
     pub lo: f64,
     pub hi: f64,

@@ -6,6 +6,8 @@
 // `proofs/root/Closest` has the law that no other value of the format is as near to the root, and
 // `proofs/RootBound` an upper bound of it that takes no root. The logarithm's constants are derived from
 // the series of ln 2 in `proofs/LnTwo`; `proofs/LastStep` says where the last step is exact.
+#![tactic(auto)]
+
 mod logarithm;
 mod parts;
 mod power;

@@ -5,7 +5,7 @@ ghost use Rattle.std.specs.Float.Ieee.{units};
 ghost use Rattle.elementary.specs.Inner.Parts.{Scaled, count_of};
 
 // A value, as `significand` * 2^`power` * 2^-2148.
-#[derive(Drop)]
+#[derive(Clone, Copy)]
 pub(crate) struct Parts {
     pub(crate) significand: u64,
     pub(crate) power: u64,

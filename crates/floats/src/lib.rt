@@ -4,6 +4,8 @@
 // Each function takes every value, asks nothing of its caller, and returns the value that one definition
 // of `specs/` gives, to the bit; NaN counts as one value. `proofs/Order/` has the laws of IEEE order
 // that the charts' promises rest on.
+#![tactic(auto)]
+
 mod bits;
 mod larger;
 mod magnitude;

@@ -4,6 +4,8 @@
 // the bit. Blocks of values that are all plain (finite, above zero and not subnormal) go through short
 // loops without a branch, of which the compiler takes several turns in one; in any other block each
 // value is given to `elementary::ln`.
+#![tactic(auto)]
+
 mod block;
 mod groups;
 mod plain;

@@ -9,6 +9,8 @@
 // median and the search, and no public contract says how it is made. A rank counts from 0: the value of
 // rank r stands at the index r of the values in order. Each round splits what is left of `run` by a
 // pivot and keeps the part that has the two middle ranks, at the front of the same floats.
+#![tactic(auto)]
+
 mod ends;
 mod few;
 mod middle;
@@ -22,7 +24,7 @@ pub use middle::median_difference;
 
 // The two middle values of some differences, `low` and `high`; of an odd number of them the middle one,
 // twice.
-#[derive(Drop)]
+#[derive(Clone, Copy)]
 struct Middles {
     low: f64,
     high: f64,
@@ -30,7 +32,7 @@ struct Middles {
 
 // What is left of some values: the first `size` floats of their run, and the ranks `first` and `second`
 // among those of the two values that are looked for.
-#[derive(Drop)]
+#[derive(Clone, Copy)]
 struct Left {
     size: usize,
     first: usize,
@@ -38,14 +40,14 @@ struct Left {
 }
 
 // How many values are below a pivot, `below`, and how many are not above it, `upto`.
-#[derive(Drop)]
+#[derive(Clone, Copy)]
 struct Counts {
     below: usize,
     upto: usize,
 }
 
 // Two bit patterns, `low` and `high`, between which the value that is looked for lies, `low` included.
-#[derive(Drop)]
+#[derive(Clone, Copy)]
 struct Bracket {
     low: u64,
     high: u64,

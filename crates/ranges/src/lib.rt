@@ -3,13 +3,15 @@
 // No function asks anything of its caller. Each result is, to the bit, that of the definition which
 // its contract names (`specs/Ranges`). Blocks of readings that lie within the range so far are
 // passed over, which `specs/Inner/Blocks` says and `proofs/RangeLaws` shows to change nothing.
+#![tactic(auto)]
+
 ghost use Rattle.std.specs.Prelude.{◌≡◌, false, cond, ◌≤◌, ◌<◌, length};
 ghost use Rattle.floats.specs.Numbers.{◌<ᶠ◌};
 ghost use Rattle.ranges.specs.Inner.Blocks.{beyond, Within, Taken};
 ghost use Rattle.ranges.specs.Ranges.{range_of, about};
 
 // The lowest and the highest of some readings, `lo` and `hi`.
-#[derive(Drop)]
+#[derive(Clone, Copy)]
 pub struct Range {
     pub lo: f64,
     pub hi: f64,

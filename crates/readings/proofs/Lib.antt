@@ -1,5 +1,4 @@
 pub mod LengthLaws
-pub mod FirstLaws
 pub mod GapLaws
 pub mod ChannelLaws
 pub mod Examples

@@ -1,5 +1,4 @@
 pub mod Shape
-pub mod First
 pub mod Gaps
 pub mod Channels
 pub mod FirstGap

@@ -8,6 +8,8 @@
 // `shaped_said` and `checked_said` in `proofs/`. Where there is no channel `k` the view gives an empty
 // part: `specs/View`; that the channels of lengths which are not refused are the parts of the run is a
 // law of `proofs/ViewLaws`.
+#![tactic(auto)]
+
 mod channels;
 mod gaps;
 mod lengths;
@@ -19,21 +21,21 @@ use refusals::Refusal;
 pub use view::channel_of;
 
 // What the lengths say of a run: `count` channels of `length` readings each, or a refusal.
-#[derive(Drop)]
+#[derive(Clone, Copy)]
 pub enum Shaped {
     Channels { count: usize, length: usize },
     Refused(Refusal),
 }
 
 // Whether all readings are finite; if not, refusal 8 with the channel and index of the first gap.
-#[derive(Drop)]
+#[derive(Clone, Copy)]
 pub enum Checked {
     Finite,
     Refused(Refusal),
 }
 
 // The view: the flat `run`, taken for `channels` channels of `length` readings each.
-#[derive(Drop)]
+#[derive(Clone, Copy)]
 pub struct Readings<'a> {
     pub run: &'a [f64],
     pub channels: usize,

@@ -10,9 +10,8 @@ use Rattle.logic.proofs.Laws.{clash}
 use Rattle.refusals.specs.Stated.{Stated, stated}
 use Rattle.refusals.specs.Said.{refusing, said}
 use Rattle.refusals.specs.declared.Refusal.{Refusal}
-use Rattle.refusals.specs.declared.Refusal.TheVariants.{Penalty, MinLen, Channels, Shape, Unequal, TooLong, Room, NonFinite, Pool, Form, Piece, Target, Sigma, Weight, Bound, Overflow}
+use Rattle.refusals.specs.declared.Refusal.TheVariants.{Penalty, MinLen, Channels, Shape, Unequal, TooLong, Room, NonFinite, Pool, Form, Piece, Target, Sigma, Weight, Bound}
 use Rattle.refusals.specs.declared.Answer.{Answer}
-use Rattle.refusals.specs.declared.Answer.TheVariants as Answer
 
 -- each refusal with its number, where the values that are stated are `v`; numbers may have holes
 cases : List ℕ → List (ℕ × Refusal)
@@ -32,7 +31,6 @@ cases v =
     (16, Sigma) ∷
     (17, Weight) ∷
     (18, Bound) ∷
-    (20, Overflow (get_or v 0 0) (get_or v 1 0)) ∷
     []
 
 -- the one of these refusals with the number `n`, and none where `n` is a hole
@@ -60,7 +58,6 @@ read_back Target = refl
 read_back Sigma = refl
 read_back Weight = refl
 read_back Bound = refl
-read_back (Overflow channel index) = refl
 
 pub stated_apart : (r q : Refusal) → stated r ≡ stated q → r ≡ q
 stated_apart r q e = let both : some r ≡ some q = sym (read_back r) ∙ ap read e ∙ read_back q in cc both
@@ -80,14 +77,10 @@ by_number : (r : Refusal) (n : ℕ) → (stated r).number ≡ n → some r ≡ n
 unfolding read
 by_number r n e = sym (read_back r) ∙ ap (numbered (cases (stated r).values)) e
 
--- 8 is the refusal of a reading that is not finite and 20 that of sums that are not, each with the values that are stated; 9 is that of too few slots
+-- 8 is the refusal of a reading that is not finite, with the values that are stated, and 9 that of too few slots
 pub eight_is_gap : (r : Refusal) → (stated r).number ≡ 8 → r ≡ NonFinite (get_or (stated r).values 0 0) (get_or (stated r).values 1 0)
 unfolding numbered cases
 eight_is_gap r e = cc (by_number r 8 e)
-
-pub twenty_is_overflow : (r : Refusal) → (stated r).number ≡ 20 → r ≡ Overflow (get_or (stated r).values 0 0) (get_or (stated r).values 1 0)
-unfolding numbered cases
-twenty_is_overflow r e = cc (by_number r 20 e)
 
 pub nine_is_pool : (r : Refusal) → (stated r).number ≡ 9 → r ≡ Pool
 unfolding numbered cases

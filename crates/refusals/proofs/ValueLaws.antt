@@ -8,7 +8,7 @@ use lib.Seq.{take_all}
 use Rattle.refusals.specs.Stated.{stated, values_of}
 use Rattle.refusals.specs.declared.Refusal.{Refusal}
 use Rattle.refusals.specs.declared.Values.{Values}
-use Rattle.refusals.specs.declared.Refusal.TheVariants.{Penalty, MinLen, Channels, Shape, Unequal, TooLong, Room, NonFinite, Pool, Form, Piece, Target, Sigma, Weight, Bound, Overflow}
+use Rattle.refusals.specs.declared.Refusal.TheVariants.{Penalty, MinLen, Channels, Shape, Unequal, TooLong, Room, NonFinite, Pool, Form, Piece, Target, Sigma, Weight, Bound}
 
 -- a number is above 0 and has two digits at the most
 pub number_bounds : (r : Refusal) → (0 < (stated r).number) × ((stated r).number ≤ 99)
@@ -27,7 +27,6 @@ number_bounds Target = (omega arith, omega arith)
 number_bounds Sigma = (omega arith, omega arith)
 number_bounds Weight = (omega arith, omega arith)
 number_bounds Bound = (omega arith, omega arith)
-number_bounds (Overflow channel index) = (omega arith, omega arith)
 
 -- there are two values at the most: those that `values` counts, first and second
 pub values_are : (r : Refusal) → let v = values_of r in (stated r).values ≡ take v.count (v.first ∷ v.second ∷ [])
@@ -47,7 +46,6 @@ values_are Target = refl
 values_are Sigma = refl
 values_are Weight = refl
 values_are Bound = refl
-values_are (Overflow channel index) = refl
 
 -- the values by their count: none, the first, or both
 module _ (r : Refusal) (v : Values) (e : v ≡ values_of r) where

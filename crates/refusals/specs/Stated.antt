@@ -1,7 +1,7 @@
 -- What each refusal says: its number, and the values that go with it. Rules 2.1 and 2.2. Definitions only.
 use Rattle.std.specs.Prelude.{ℕ, List, [], ◌∷◌, length, get_or}
 use Rattle.refusals.specs.declared.Refusal.{Refusal}
-use Rattle.refusals.specs.declared.Refusal.TheVariants.{Penalty, MinLen, Channels, Shape, Unequal, TooLong, Room, NonFinite, Pool, Form, Piece, Target, Sigma, Weight, Bound, Overflow}
+use Rattle.refusals.specs.declared.Refusal.TheVariants.{Penalty, MinLen, Channels, Shape, Unequal, TooLong, Room, NonFinite, Pool, Form, Piece, Target, Sigma, Weight, Bound}
 use Rattle.refusals.specs.declared.Values.{Values}
 
 -- a number, and the values that are given with it
@@ -13,11 +13,7 @@ pub record Stated : Type 0 where
 abbrev pub plain : ℕ → Stated
 plain n = record { number = n; values = [] }
 
--- a number with the reading `index` of `channel` beside it
-abbrev pub placed : ℕ → ℕ → ℕ → Stated
-placed n channel index = record { number = n; values = channel ∷ index ∷ [] }
-
--- the table of rule 2.1, whose numbers have holes; 8 and 20 also say a channel and an index
+-- the table of rule 2.1, whose numbers have holes; 8 also says the channel and the index
 abbrev pub stated : Refusal → Stated
 stated Penalty = plain 1
 stated MinLen = plain 2
@@ -26,7 +22,7 @@ stated Shape = plain 4
 stated Unequal = plain 5
 stated TooLong = plain 6
 stated Room = plain 7
-stated (NonFinite channel index) = placed 8 channel index
+stated (NonFinite channel index) = record { number = 8; values = channel ∷ index ∷ [] }
 stated Pool = plain 9
 stated Form = plain 10
 stated Piece = plain 12
@@ -34,7 +30,6 @@ stated Target = plain 15
 stated Sigma = plain 16
 stated Weight = plain 17
 stated Bound = plain 18
-stated (Overflow channel index) = placed 20 channel index
 
 -- the values that are stated: how many, the first and the second, 0 for one that is not there
 unfoldable pub values_of : Refusal → Values

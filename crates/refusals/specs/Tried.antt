@@ -2,7 +2,6 @@
 use Rattle.std.specs.Prelude.{ℕ, Bool, true, not, ◌&&◌, cond, List, [], ◌∷◌}
 use Rattle.refusals.specs.declared.Refusal.{Refusal}
 use Rattle.refusals.specs.declared.Answer.{Answer}
-use Rattle.refusals.specs.declared.Answer.TheVariants as Answer
 
 -- the first refusal whose test holds, and `result` where none does; `refuse` makes an answer of a refusal
 unfoldable pub tried : {A : Type 0} → (Refusal → A) → List (Bool × Refusal) → A → A

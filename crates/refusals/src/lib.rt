@@ -9,6 +9,8 @@
 // `specs/Stated` has the numbers and values, `specs/Tried` how refusals are tried one after the other,
 // `specs/Said` what an answer says outside, `specs/Limits` the limits. No two refusals are stated alike,
 // and none states 11 (`proofs/Apart`).
+#![tactic(auto)]
+
 ghost use Rattle.std.specs.Prelude.{◌≡◌};
 ghost use Rattle.refusals.specs.Stated.{stated, values_of};
 
@@ -19,7 +21,7 @@ pub const MAX_CHANNELS: usize = 8;
 // for among as many.
 pub const MAX_READINGS: usize = 4096;
 
-#[derive(Drop)]
+#[derive(Clone, Copy)]
 pub enum Refusal {
     // A custom penalty is not finite or not above 0.
     Penalty,
@@ -51,12 +53,10 @@ pub enum Refusal {
     Weight,
     // A chart's bound, h or L, is not finite or not above 0.
     Bound,
-    // A mean, a running sum or a running sum of squares is not finite, though the readings are.
-    Overflow { channel: usize, index: usize },
 }
 
 // How many records, indices or cuts a call wrote, or the refusal for which it wrote none.
-#[derive(Drop)]
+#[derive(Clone, Copy)]
 pub enum Answer {
     Count(usize),
     Refused(Refusal),
@@ -64,22 +64,11 @@ pub enum Answer {
 
 // The values that a refusal carries: `count` of them, the `first` and the `second`, which are 0 where
 // it carries none.
-#[derive(Drop)]
+#[derive(Clone, Copy)]
 pub struct Values {
     pub count: usize,
     pub first: usize,
     pub second: usize,
-}
-
-// The values of a refusal that names the reading `index` of `channel`.
-fn place(channel: usize, index: usize) -> Values
-    ensures { result ≡ record { count = 2; first = channel; second = index } }
-{
-    Values {
-        count: 2,
-        first: channel,
-        second: index,
-    }
 }
 
 impl Refusal {
@@ -106,10 +95,6 @@ impl Refusal {
             Refusal::Sigma => 16,
             Refusal::Weight => 17,
             Refusal::Bound => 18,
-            Refusal::Overflow {
-                channel: _,
-                index: _,
-            } => 20,
         }
     }
 
@@ -118,8 +103,11 @@ impl Refusal {
         ensures { result ≡ values_of self }
     {
         match self {
-            Refusal::NonFinite { channel, index } => place(channel, index),
-            Refusal::Overflow { channel, index } => place(channel, index),
+            Refusal::NonFinite { channel, index } => Values {
+                count: 2,
+                first: channel,
+                second: index,
+            },
             _ => Values {
                 count: 0,
                 first: 0,

@@ -1,5 +1,5 @@
 -- The check of a guess: with g = a * 2 ^ 27 + b, the distance of g * g to m * 2 ^ 52 in three steps of 64 bits, and what it says of the nearest root. Assumes nothing.
-use Rattle.std.proofs.Common.{◌≡◌, ℕ, zero, suc, ◌+◌, ◌-◌, ◌*◌, ◌/◌, ◌%◌, ◌^◌, ◌<◌, ◌≤◌, sym, ap, ◌∙◌, subst, mod-eq_of_lt, mul-le-mul, mul_right_comm, arith}
+use Rattle.std.proofs.Common.{◌≡◌, ℕ, zero, suc, ◌+◌, ◌*◌, ◌/◌, ◌%◌, ◌^◌, ◌<◌, ◌≤◌, sym, ap, ◌∙◌, subst, mod-eq_of_lt, mul-le-mul, mul_right_comm, arith}
 use native.Mathlib.Nat.{mul-mul-mul_comm}
 use Rattle.elementary.specs.Inner.Parts.{Near}
 use Rattle.elementary.proofs.root.Digits.{square_sum}

@@ -22,7 +22,7 @@ div_inf f s (fin true n d) p = absurd p
 div_inf f true (fin false n d) p = refl
 div_inf f false (fin false n d) p = refl
 
-pub num_pos : (y : Float) → T (positive y) → 0 < num y
+num_pos : (y : Float) → T (positive y) → 0 < num y
 num_pos nan p = absurd p
 num_pos (inf s) p = absurd p
 num_pos (fin true n d) p = absurd p
@@ -32,7 +32,7 @@ like : (s : Bool) → unlike s false ≡ s
 like true = refl
 like false = refl
 
-pub div_fin : (f : Format) (s : Bool) (m : ℕ) (e : ℤ) (y : Float) → T (positive y) → div f (fin s m e) y ≡ round f s (m * up e * den y) (num y * down e)
+div_fin : (f : Format) (s : Bool) (m : ℕ) (e : ℤ) (y : Float) → T (positive y) → div f (fin s m e) y ≡ round f s (m * up e * den y) (num y * down e)
 unfolding div
 div_fin f s m e nan p = absurd p
 div_fin f s m e (inf t) p = absurd p

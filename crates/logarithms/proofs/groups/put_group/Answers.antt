@@ -1,0 +1,15 @@
+-- `logarithms::groups::put_group` meets its contract. Assumes nothing.
+use mathlib.Core.Path.{refl}
+use native.Mathlib.Omega.{arith}
+use lib.ListN.{length-set}
+use Rattle.logarithms.proofs.GroupLaws.{put_none, put_more, put_fewer}
+use Rattle.logarithms.proofs.groups.put_group.Goals as goal
+
+pub loop-k-init : goal.loop-k-init
+loop-k-init c = (omega arith, refl, put_none)
+
+pub loop-k-preserved : goal.loop-k-preserved
+loop-k-preserved c = let l = c.loop-k in (omega arith, simp length-set l.invariant.1, put_more l.invariant.2 (omega (arith, l.invariant.1, c.loop-k-test.true, c.requires.1)) refl)
+
+pub returns : goal.returns
+returns c = put_fewer c.loop-k-test.false c.loop-k.invariant.2

@@ -1,0 +1,35 @@
+-- `medians::rank::count_numbers` meets its contract. The loop's invariant: the values before the index `i` are counted. Assumes nothing.
+use mathlib.Core.Path.{refl}
+use native.Mathlib.Omega.{arith}
+use lib.Ieee.{Float, eq}
+use Rattle.medians.specs.Inner.Ranks.{count}
+use Rattle.medians.proofs.CountLaws.{counted_in, counted_out, counted_all}
+use Rattle.medians.proofs.rank.count_numbers.Goals as goal
+
+pub loop-i-init : goal.loop-i-init
+unfolding count
+loop-i-init c = (omega arith, omega arith, refl)
+
+pub bounds-run-i : goal.bounds-run-i
+bounds-run-i c = omega arith
+
+pub overflow_add-i : goal.overflow_add-i
+overflow_add-i c = omega arith
+
+pub overflow_add-count : goal.overflow_add-count
+overflow_add-count c = omega arith
+
+pub loop-i-smaller-then-value : goal.loop-i-smaller-then-value
+loop-i-smaller-then-value c = omega arith
+
+pub loop-i-preserved-then-value : goal.loop-i-preserved-then-value
+loop-i-preserved-then-value c = let l = c.loop-i.invariant in (omega arith, omega arith, counted_in (λ (y : Float). eq y y) c.args.run.now c.loop-i.i c.loop-i.count l.2 (omega arith) c.if-value.true)
+
+pub loop-i-smaller : goal.loop-i-smaller
+loop-i-smaller c = omega arith
+
+pub loop-i-preserved : goal.loop-i-preserved
+loop-i-preserved c = let l = c.loop-i.invariant in (omega arith, omega arith, counted_out (λ (y : Float). eq y y) c.args.run.now c.loop-i.i c.loop-i.count l.2 (omega arith) c.if-value.false)
+
+pub returns : goal.returns
+returns c = let l = c.loop-i.invariant in counted_all (λ (y : Float). eq y y) c.args.run.now c.loop-i.i c.loop-i.count l.2 (omega arith)
