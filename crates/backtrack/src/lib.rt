@@ -4,6 +4,8 @@
 // `specs/Backtracked` what is left in the lent area; that one outcome alone meets it is proved. What
 // promise 2 says of the cuts is in `specs/Pieces`, and `proofs/CutLaws` proves it of the cuts by sound
 // predecessors.
+#![tactic(auto)]
+
 mod cuts;
 
 pub use cuts::backtrack;

@@ -12,9 +12,7 @@ use Rattle.logic.proofs.Laws.{clash}
 use Rattle.refusals.specs.Tried.{tried}
 use Rattle.refusals.specs.Said.{said}
 use Rattle.refusals.specs.declared.Answer.{Answer}
-use Rattle.refusals.specs.declared.Answer.TheVariants as Answer
 use Rattle.refusals.specs.declared.Refusal.{Refusal}
-use Rattle.refusals.specs.declared.Refusal.TheVariants as Refusal
 use Rattle.refusals.proofs.TriedLaws.{no_count}
 use Rattle.readings.specs.Shape.{first_length}
 use Rattle.readings.specs.FirstGap.{FirstGap}

@@ -1,11 +1,8 @@
 -- A search in plain numbers: which numbers stand for which settings, and what is told and left. Rules 8.1 and 8.2. Definitions only.
 use Rattle.std.specs.Prelude.{ℕ, Bool, not, ◌&&◌, cond, List, ◌∷◌, ltb, eqb, Float}
 use Rattle.refusals.specs.declared.Refusal.{Refusal}
-use Rattle.refusals.specs.declared.Refusal.TheVariants as Refusal
 use Rattle.costs.specs.declared.CostFunction.{CostFunction}
-use Rattle.costs.specs.declared.CostFunction.TheVariants as CostFunction
 use Rattle.costs.specs.declared.Penalty.{Penalty}
-use Rattle.costs.specs.declared.Penalty.TheVariants as Penalty
 use Rattle.refusals.specs.Said.{said}
 use Rattle.refusals.specs.declared.Answer.{Answer}
 use Rattle.search_answer.specs.Outcome.{Areas, outcome_by, tests_of, found_in}

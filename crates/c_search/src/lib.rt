@@ -3,6 +3,8 @@
 // `search` asks nothing of its caller. `specs/Asked` says which numbers stand for which settings;
 // others are refusal 10, which is tried first and changes no area. All else is the search of crate
 // `search`, told in numbers by crate `c_answers`.
+#![tactic(auto)]
+
 ghost use Rattle.std.specs.Prelude.{◌≡◌};
 ghost use Rattle.refusals.specs.Said.{said};
 ghost use Rattle.search_answer.specs.Outcome.{areas};

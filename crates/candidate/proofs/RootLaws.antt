@@ -27,6 +27,7 @@ use Rattle.candidate.specs.Cuts.{far2, inside, cut_ends, cut_span, cut_by, cut_t
 
 -- ---- a finite number less itself is +0
 above_nothing : (u : ℕ) → 0 < u → compare 0 u ≡ Ordering.lt
+above_nothing zero h = elim h [ ]
 above_nothing (suc u) h = compare.zero-suc u
 
 round_nothing : (c : ℕ) → 0 < c → round binary64 false 0 c ≡ +0

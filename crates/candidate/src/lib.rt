@@ -10,11 +10,13 @@
 // list cuts is said in `proofs/RootLaws`, and that `candidate_balls::lose_inside` does to the list what
 // the definition does in `proofs/AreaLaws`. Crate `candidate_sides` has one side of the box, and crate
 // `candidate_balls` the balls in an area.
+#![tactic(auto)]
+
 mod boxes;
 mod cuts;
 
 // The box: its lower and its upper corner, with a number for each channel.
-#[derive(Drop)]
+#[derive(Clone, Copy)]
 pub struct Candidate {
     pub lo: [f64; 2],
     pub hi: [f64; 2],

@@ -5,7 +5,6 @@ use Rattle.elementary.specs.Logarithm.{ln}
 use Rattle.readings.specs.Channels.{channel_of}
 use Rattle.sums.specs.Sums.{mean_of, centred_to, squares_to}
 use Rattle.costs.specs.declared.CostFunction.{CostFunction}
-use Rattle.costs.specs.declared.CostFunction.TheVariants as CostFunction
 use Rattle.costs.specs.declared.Segment.{Segment}
 
 -- the readings of the channel `xs` from `a` up to `b`, without `b`: differences of the running sums about `mean`

@@ -3,9 +3,7 @@ use Rattle.std.specs.Prelude.{ℕ, Float}
 use Rattle.floats.specs.Numbers.{◌*ᶠ◌, of_whole}
 use Rattle.elementary.specs.Logarithm.{ln}
 use Rattle.costs.specs.declared.CostFunction.{CostFunction}
-use Rattle.costs.specs.declared.CostFunction.TheVariants as CostFunction
 use Rattle.costs.specs.declared.Penalty.{Penalty}
-use Rattle.costs.specs.declared.Penalty.TheVariants as Penalty
 
 -- BIC: p·ln(n) times `noise`, the sum of the noise variances, for L2 (p = 1), and times `channels` for Normal (p = 2)
 unfoldable pub bic_penalty : CostFunction → ℕ → Float → Float → Float

@@ -13,7 +13,6 @@ use lib.Ieee.{Float}
 use Rattle.refusals.specs.Tried.{tried, passed}
 use Rattle.refusals.specs.Said.{Said, refusing, answered}
 use Rattle.refusals.specs.declared.Answer.{Answer}
-use Rattle.refusals.specs.declared.Answer.TheVariants as Answer
 use Rattle.refusals.specs.declared.Refusal.{Refusal}
 use Rattle.readings.specs.Shape.{shape_tests, first_length}
 use Rattle.readings.specs.declared.Shaped.TheVariants as Shaped

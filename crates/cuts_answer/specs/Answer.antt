@@ -4,7 +4,6 @@ use Rattle.std.proofs.Math.Option.{Option, none, some}
 use Rattle.refusals.specs.Tried.{tried}
 use Rattle.refusals.specs.Said.{Said, refusing, answered}
 use Rattle.refusals.specs.declared.Refusal.{Refusal}
-use Rattle.refusals.specs.declared.Refusal.TheVariants as Refusal
 use Rattle.readings.specs.Shape.{first_length}
 use Rattle.search_rules.specs.Room.{cuts_for, floats_for, indices_for}
 use Rattle.search_answer.specs.Tests.{search_tests}

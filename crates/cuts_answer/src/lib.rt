@@ -4,6 +4,8 @@
 // Every input has an answer, damaged ones too. Crate `cuts_input` says which bytes ask for which
 // search, crate `cuts_output` how an answer is written, and `specs/Answer` what `answer` promises:
 // exactly one output for each input. `specs/Inner` is for the private functions.
+#![tactic(auto)]
+
 mod printing;
 
 ghost use Rattle.std.specs.Prelude.{◌≡◌};

@@ -6,6 +6,8 @@
 // defined (`specs/Functional`), and what is answered and left in the lent areas (`specs/Partitioned`);
 // that no other outcome meets it is said in `proofs/PartitionLaws`. `specs/Inner/Held` says for the private
 // functions how the areas hold a state of the search.
+#![tactic(auto)]
+
 mod birth;
 mod channels;
 mod faces;
@@ -35,7 +37,7 @@ const MARK: usize = 2 * Candidate::LOSING_BALLS;
 // What is searched, and where its state stands: F at `f` of the floats, after the sums, and `slots`
 // slots in the pool. Of the indices the first n + 1 are the predecessors, the next n + 1 the living
 // candidates, the next n + 1 their words. `range` is the box of the channels' ranges.
-#[derive(Drop)]
+#[derive(Clone, Copy)]
 struct Plan {
     pub penalty: f64,
     pub n: usize,

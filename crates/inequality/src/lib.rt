@@ -7,6 +7,8 @@
 // alone meets it is proved. The other files of `specs/` are for the private functions: `specs/Inner/Held` says
 // how the areas hold a state of the recurrence, `specs/Inner/Weights` the weights of the candidates that they
 // give, `specs/Inner/Staying` the candidates that stay.
+#![tactic(auto)]
+
 mod keeping;
 mod lowest;
 mod normal;
@@ -22,7 +24,7 @@ pub use pruned::partition_pruned;
 // and those of the squares, then F's at `f`, and the weights of the candidates at `p`. A part of sums,
 // or F's, has at its front what belongs to the candidates, in their order, so that a loop over them goes
 // from float to float; from t on the sums stand by index, for the steps to come.
-#[derive(Drop)]
+#[derive(Clone, Copy)]
 struct Plan {
     pub cost: CostFunction,
     pub penalty: f64,

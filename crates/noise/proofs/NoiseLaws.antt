@@ -44,9 +44,9 @@ pub no_room : (size n place : ℕ) → size < place → false ≡ has_room size 
 unfolding has_room
 no_room size n place h = sym (lt-leb (place + (n - 1)) size (omega arith))
 
-pub has_room : (size n place : ℕ) → has_room size n place ≡ true → place + (n - 1) ≤ size
+pub has_room_lem : (size n place : ℕ) → has_room size n place ≡ true → place + (n - 1) ≤ size
 unfolding has_room
-has_room size n place e = leb-true (place + (n - 1)) size e
+has_room_lem size n place e = leb-true (place + (n - 1)) size e
 
 room_is : (size n place : ℕ) → place + (n - 1) ≤ size → has_room size n place ≡ true
 unfolding has_room
@@ -140,7 +140,7 @@ channel_lent run ch base area₀ area after n k place v h e f g l =
     (there.0, there.1 ∙ ap (λ (s : List Float). cleared s (length ch) place) f ∙ clear_already area₀ n (length ch) place clear short)
   where
     room : place + (n - 1) ≤ length base
-    room = has_room (length base) n place h
+    room = has_room_lem (length base) n place h
 
     short : length ch ≤ n
     short = omega (arith, ap length g, channel_short run n k)

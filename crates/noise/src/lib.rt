@@ -4,6 +4,8 @@
 // is +0 afterwards; the rest of the area stays as it was. Where the area has no room for them the answer
 // is NaN and the area is unchanged. `specs/Noise` has the definitions; the median is that of the crate
 // `medians`.
+#![tactic(auto)]
+
 mod variance;
 
 pub use variance::{noise_sum, noise_variance};

@@ -7,7 +7,6 @@ use lib.ListN.{length}
 use lib.Ieee.{Float}
 use Rattle.readings.specs.Shape.{first_length}
 use Rattle.refusals.specs.declared.Answer.{Answer}
-use Rattle.refusals.specs.declared.Answer.TheVariants as Answer
 use Rattle.search_answer.specs.Outcome.{Areas}
 use Rattle.search_answer.proofs.CutLaws.{detected_cuts}
 use Rattle.search_answer.proofs.FrontLaws.{detected_count}

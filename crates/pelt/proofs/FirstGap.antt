@@ -13,7 +13,6 @@ use Rattle.readings.specs.FirstGap.{reading_of, FirstGap}
 use Rattle.readings.proofs.FirstGapLaws.{reading_at_lem}
 use Rattle.search_answer.proofs.AdmissionLaws.{Shapely}
 use Rattle.refusals.specs.declared.Answer.{Answer}
-use Rattle.refusals.specs.declared.Answer.TheVariants as Answer
 use Rattle.search_answer.specs.Outcome.{Areas}
 use Rattle.search_answer.proofs.FrontLaws.{detected_gap}
 use Rattle.pelt.specs.declared.Pelt.{Pelt}

@@ -7,7 +7,6 @@ use lib.ListN.{length}
 use lib.Ieee.{Float}
 use Rattle.readings.specs.Shape.{first_length}
 use Rattle.refusals.specs.declared.Answer.{Answer}
-use Rattle.refusals.specs.declared.Answer.TheVariants as Answer
 use Rattle.refusals.specs.declared.Refusal.TheVariants as Refusal
 use Rattle.search_rules.specs.Limits.{slot_floats}
 use Rattle.search_answer.specs.Outcome.{Areas}

@@ -4,6 +4,8 @@
 // says what is answered and what every lent area holds afterwards, by crate `search_answer`. What
 // promise 2 says of the cuts, and which reading refusal 8 names, is proved of each call (`proofs/Cuts`,
 // `proofs/FirstGap`).
+#![tactic(auto)]
+
 ghost use Rattle.std.specs.Prelude.{◌≡◌, true, false, [], ◌∷◌, length};
 ghost use Rattle.search_answer.specs.Search.{takes_functional};
 ghost use Rattle.search_answer.specs.Outcome.{areas};
@@ -15,7 +17,7 @@ use search::find_cuts;
 
 // A search: how a segment is priced, the penalty of a change, and the least length of a piece. The
 // settings are checked when they are used.
-#[derive(Drop)]
+#[derive(Clone, Copy)]
 pub struct Pelt {
     pub cost: CostFunction,
     pub penalty: Penalty,

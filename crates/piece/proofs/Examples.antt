@@ -7,7 +7,6 @@ use Rattle.sums.specs.Sums.{sum_to, mean_of, centred, centred_to, squares_to}
 use Rattle.costs.specs.Costs.{segment_about, segment_of, l2_cost}
 use Rattle.piece.specs.declared.Spread.TheVariants as Spread
 use Rattle.piece.specs.declared.Summarised.{Summarised}
-use Rattle.piece.specs.declared.Summarised.TheVariants as Summarised
 use Rattle.piece.specs.Spread.{not_below_zero, spread_of}
 use Rattle.piece.specs.Piece.{summary_of, piece_tests, summarised_as, summarised}
 use Rattle.refusals.specs.Said.{answered}

@@ -14,9 +14,7 @@ use Rattle.costs.specs.declared.Segment.{Segment}
 use Rattle.piece.specs.declared.segment_of.Running.{Running}
 use Rattle.piece.specs.declared.PieceSummary.{PieceSummary}
 use Rattle.piece.specs.declared.Spread.{Spread}
-use Rattle.piece.specs.declared.Spread.TheVariants as Spread
 use Rattle.piece.specs.declared.Summarised.{Summarised}
-use Rattle.piece.specs.declared.Summarised.TheVariants as Summarised
 use Rattle.piece.specs.Inner.Running.{running_at}
 use Rattle.piece.specs.Spread.{not_below_zero, spread_of}
 use Rattle.piece.specs.Piece.{summary_of, piece_tests, summarised_as, summarised}

@@ -19,7 +19,6 @@ use Rattle.costs.specs.Costs.{segment_about, segment_of, l2_cost}
 use Rattle.costs.proofs.StartLaws.{l2_from_either_zero}
 use Rattle.piece.specs.declared.PieceSummary.{PieceSummary}
 use Rattle.piece.specs.declared.Spread.{Spread}
-use Rattle.piece.specs.declared.Spread.TheVariants as Spread
 use Rattle.piece.specs.declared.Summarised.TheVariants as Summarised
 use Rattle.piece.specs.Spread.{not_below_zero, spread_of}
 use Rattle.piece.specs.Piece.{summary_of, summarised_as}

@@ -6,14 +6,11 @@ use Rattle.refusals.specs.Limits.{max_readings}
 use Rattle.refusals.specs.Tried.{tried}
 use Rattle.refusals.specs.Said.{Said, refusing, answered}
 use Rattle.refusals.specs.declared.Refusal.{Refusal}
-use Rattle.refusals.specs.declared.Refusal.TheVariants as Refusal
 use Rattle.sums.specs.Sums.{mean_of}
 use Rattle.costs.specs.Costs.{segment_of, l2_cost}
 use Rattle.piece.specs.declared.Spread.{Spread}
-use Rattle.piece.specs.declared.Spread.TheVariants as Spread
 use Rattle.piece.specs.declared.PieceSummary.{PieceSummary}
 use Rattle.piece.specs.declared.Summarised.{Summarised}
-use Rattle.piece.specs.declared.Summarised.TheVariants as Summarised
 use Rattle.piece.specs.Spread.{spread_of}
 
 -- the summary of the readings of `xs` from `a` up to `b`, without `b`: length; mean, the centred mean plus the channel's mean; spread, by the length and the L2 cost

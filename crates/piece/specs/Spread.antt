@@ -2,7 +2,6 @@
 use Rattle.std.specs.Prelude.{ℕ, ◌-◌, cond, nat_lt, Float}
 use Rattle.floats.specs.Numbers.{◌/ᶠ◌, ◌<ᶠ◌, +0, of_whole}
 use Rattle.piece.specs.declared.Spread.{Spread}
-use Rattle.piece.specs.declared.Spread.TheVariants as Spread
 
 -- `cost`, or +0 where it is below 0; a NaN is not below 0, and stays
 unfoldable pub not_below_zero : Float → Float

@@ -6,6 +6,8 @@
 // it says in the rules' numbers, is stated by the law `summarised_said`; mean and cost are those of the
 // search. A spread is never below 0, and one reading has none: `proofs/SpreadLaws`, of the call. It needs
 // no lent room.
+#![tactic(auto)]
+
 mod segment_of;
 mod spread_of;
 
@@ -20,14 +22,14 @@ use sums::mean;
 
 // How far the readings of a piece spread: `Of` their variance, the L2 cost divided by the length less
 // one. It is `Absent` of a single reading, which has none.
-#[derive(Drop)]
+#[derive(Clone, Copy)]
 pub enum Spread {
     Absent,
     Of(f64),
 }
 
 // A piece: `length` readings, their `mean`, and their `spread`.
-#[derive(Drop)]
+#[derive(Clone, Copy)]
 pub struct PieceSummary {
     pub length: usize,
     pub mean: f64,
@@ -35,7 +37,7 @@ pub struct PieceSummary {
 }
 
 // The answer of `summary`.
-#[derive(Drop)]
+#[derive(Clone, Copy)]
 pub enum Summarised {
     Piece(PieceSummary),
     Refused(Refusal),

@@ -8,7 +8,7 @@ use costs::Segment;
 use std::num::nearest_u64_to_f64;
 
 // The sums of a channel's first readings, and of their squares, each less the channel's mean.
-#[derive(Drop)]
+#[derive(Clone, Copy)]
 struct Running {
     sum: f64,
     sum_of_squares: f64,

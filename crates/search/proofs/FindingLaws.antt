@@ -15,16 +15,12 @@ use Rattle.floats.specs.Numbers.{◌≤ᶠ◌, +0}
 use Rattle.refusals.specs.Limits.{max_channels, max_readings}
 use Rattle.refusals.proofs.TriedLaws.{tried_passed}
 use Rattle.refusals.specs.declared.Answer.{Answer}
-use Rattle.refusals.specs.declared.Answer.TheVariants as Answer
 use Rattle.refusals.specs.declared.Refusal.{Refusal}
-use Rattle.refusals.specs.declared.Refusal.TheVariants as Refusal
 use Rattle.areas.specs.Parts.{part}
 use Rattle.readings.specs.Shape.{first_length}
 use Rattle.readings.specs.declared.Shaped.{Shaped}
-use Rattle.readings.specs.declared.Shaped.TheVariants as Shaped
 use Rattle.costs.specs.declared.CostFunction.{CostFunction}
 use Rattle.costs.specs.declared.Penalty.{Penalty}
-use Rattle.costs.specs.declared.Penalty.TheVariants as Penalty
 use Rattle.costs.specs.declared.CostFunction.TheVariants.{L2, Normal}
 use Rattle.costs.specs.Penalties.{penalty_of, bic_penalty}
 use Rattle.noise.specs.Noise.{noise_sum_to, has_room, Lent}

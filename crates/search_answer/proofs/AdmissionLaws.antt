@@ -13,19 +13,15 @@ use Rattle.logic.proofs.Laws.{clash}
 use Rattle.floats.specs.Numbers.{◌<ᶠ◌, +0}
 use Rattle.floats.specs.Finite.{finite}
 use Rattle.costs.specs.declared.Penalty.{Penalty}
-use Rattle.costs.specs.declared.Penalty.TheVariants as Penalty
 use Rattle.refusals.specs.Limits.{max_channels, max_readings}
 use Rattle.refusals.specs.Tried.{tried, passed}
 use Rattle.refusals.specs.Said.{answered, refusing}
 use Rattle.refusals.proofs.TriedLaws.{tried_map, tried_passed, tried_append, passed_first, passed_rest, passed_left, passed_right}
 use Rattle.refusals.specs.declared.Refusal.{Refusal}
-use Rattle.refusals.specs.declared.Refusal.TheVariants as Refusal
 use Rattle.readings.specs.Shape.{shape_tests, shaped_as, shaped, first_length}
 use Rattle.readings.specs.Gaps.{gap_to, channel_at, index_at, gap_tests, checked_as}
 use Rattle.readings.specs.declared.Shaped.{Shaped}
-use Rattle.readings.specs.declared.Shaped.TheVariants as Shaped
 use Rattle.readings.specs.declared.Checked.{Checked}
-use Rattle.readings.specs.declared.Checked.TheVariants as Checked
 use Rattle.readings.proofs.ShapeLaws.{channels_fill}
 use Rattle.search_rules.specs.Limits.{least_minimum}
 use Rattle.search_rules.specs.Room.{cuts_for, room_fits}

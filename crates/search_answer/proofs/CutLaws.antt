@@ -13,7 +13,6 @@ use lib.Ieee.{Float}
 use Rattle.logic.proofs.Laws.{clash}
 use Rattle.floats.specs.Numbers.{◌≤ᶠ◌, +0}
 use Rattle.refusals.specs.declared.Answer.{Answer}
-use Rattle.refusals.specs.declared.Answer.TheVariants as Answer
 use Rattle.costs.specs.declared.CostFunction.{CostFunction}
 use Rattle.costs.specs.declared.Penalty.{Penalty}
 use Rattle.readings.specs.Shape.{first_length}

@@ -11,9 +11,7 @@ use Rattle.logic.proofs.Laws.{clash}
 use Rattle.refusals.specs.Tried.{tried, passed}
 use Rattle.refusals.proofs.TriedLaws.{tried_map, no_count}
 use Rattle.refusals.specs.declared.Refusal.{Refusal}
-use Rattle.refusals.specs.declared.Refusal.TheVariants as Refusal
 use Rattle.refusals.specs.declared.Answer.{Answer}
-use Rattle.refusals.specs.declared.Answer.TheVariants as Answer
 use Rattle.costs.specs.declared.CostFunction.{CostFunction}
 use Rattle.costs.specs.declared.Penalty.{Penalty}
 use Rattle.search_answer.specs.Outcome.{Areas, found_answer, cuts_left, found_outcome, unchanged, outcome_by, tests_of, found_in, detected}

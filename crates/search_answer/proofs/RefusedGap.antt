@@ -13,9 +13,7 @@ use Rattle.costs.specs.declared.Penalty.{Penalty}
 use Rattle.refusals.specs.Stated.{stated}
 use Rattle.refusals.specs.Tried.{tried, passed}
 use Rattle.refusals.specs.declared.Answer.{Answer}
-use Rattle.refusals.specs.declared.Answer.TheVariants as Answer
 use Rattle.refusals.specs.declared.Refusal.{Refusal}
-use Rattle.refusals.specs.declared.Refusal.TheVariants as Refusal
 use Rattle.readings.specs.Shape.{shape_tests, shaped_as, first_length}
 use Rattle.readings.specs.Gaps.{gap_to, channel_at, index_at}
 use Rattle.readings.specs.FirstGap.{FirstGap}

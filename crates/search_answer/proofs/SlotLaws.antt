@@ -1,8 +1,8 @@
 -- Slots that always suffice: a search over channels of n readings with n slots never answers 9. Assumes nothing.
 use Prim.Native.Nat.{ℕ, ◌*◌, ◌/◌, ◌≤◌, ◌<◌}
 use mathlib.Core.Path.{◌≡◌, refl, ap, ◌∙◌}
-use mathlib.Core.Bool.{Bool, true, false, ◌&&◌}
-use mathlib.Core.List.{List, [], ◌∷◌, ◌++◌}
+use mathlib.Core.Bool.{Bool, true, false}
+use mathlib.Core.List.{List, []}
 use mathlib.Core.Option.{Option, none, some}
 use borrow.Author.Tests.{ltb-false, ltb-true}
 use native.Mathlib.Omega.{arith}
@@ -14,17 +14,15 @@ use Rattle.floats.specs.Numbers.{◌≤ᶠ◌, +0}
 use Rattle.backtrack.specs.Cuts.{cuts_of}
 use Rattle.costs.specs.declared.CostFunction.{CostFunction}
 use Rattle.costs.specs.declared.Penalty.{Penalty}
-use Rattle.refusals.specs.Tried.{tried, passed}
+use Rattle.refusals.specs.Tried.{tried}
 use Rattle.refusals.proofs.TriedLaws.{tried_map, passed_first, passed_rest}
 use Rattle.refusals.specs.declared.Answer.{Answer}
-use Rattle.refusals.specs.declared.Answer.TheVariants as Answer
 use Rattle.refusals.specs.declared.Refusal.{Refusal}
-use Rattle.refusals.specs.declared.Refusal.TheVariants as Refusal
 use Rattle.readings.specs.Shape.{shape_tests, first_length}
 use Rattle.search_rules.specs.Limits.{least_minimum, slot_floats}
 use Rattle.search_rules.specs.Functional.{Task, functional}
 use Rattle.search_rules.proofs.PeakLaws.{n_slots}
-use Rattle.search_answer.specs.Tests.{bad_penalty, room_tests, search_tests}
+use Rattle.search_answer.specs.Tests.{room_tests, search_tests}
 use Rattle.search_answer.specs.Search.{penalty_value, pruned_cuts, functional_cuts, takes_functional, cuts_by, cuts_with, cuts_found}
 use Rattle.search_answer.specs.Outcome.{Areas, found_answer, found_outcome, unchanged, outcome_by, tests_of, found_in, detected}
 use Rattle.search_answer.proofs.RefusedGap.{others, after_others}

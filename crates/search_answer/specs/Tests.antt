@@ -4,15 +4,12 @@ use Rattle.floats.specs.Numbers.{◌<ᶠ◌, +0}
 use Rattle.floats.specs.Finite.{finite}
 use Rattle.refusals.specs.Tried.{tried}
 use Rattle.refusals.specs.declared.Refusal.{Refusal}
-use Rattle.refusals.specs.declared.Refusal.TheVariants as Refusal
 use Rattle.readings.specs.Shape.{shape_tests, first_length}
 use Rattle.readings.specs.Gaps.{gap_to, channel_at, index_at}
 use Rattle.readings.specs.declared.Shaped.{Shaped}
-use Rattle.readings.specs.declared.Shaped.TheVariants as Shaped
 use Rattle.search_rules.specs.Limits.{least_minimum}
 use Rattle.search_rules.specs.Room.{cuts_for, room_fits}
 use Rattle.costs.specs.declared.Penalty.{Penalty}
-use Rattle.costs.specs.declared.Penalty.TheVariants as Penalty
 
 -- 1: a custom penalty is not finite or not above 0
 unfoldable pub bad_penalty : Penalty → Bool

@@ -8,6 +8,8 @@
 // `specs/Search` has the cuts, `specs/Outcome` the answer and the areas, `specs/Promise` what promise 2
 // says of the cuts, which is proved in `proofs/CutLaws`. `proofs/Examples` has the edges of a search by
 // computation. Crate `search` has the code.
+#![tactic(auto)]
+
 mod tests;
 
 pub use tests::admitted;

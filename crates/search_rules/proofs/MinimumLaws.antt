@@ -10,7 +10,7 @@ use lib.Ieee.{Float}
 use Rattle.floats.specs.Numbers.{◌<ᶠ◌}
 use Rattle.search_rules.specs.Minimum.{none_yet, better_of, scan_to, kept_to}
 use Rattle.search_rules.specs.declared.Best.{Best}
-use Rattle.search_rules.proofs.All.{All, none, one, all_at, all_last}
+use Rattle.search_rules.proofs.All.{All, none, all_at, all_last}
 
 -- ---- one candidate more
 pub scan_takes : (takes_part : ℕ → Bool) (total : ℕ → Float) (cs : List ℕ) (j : ℕ) → takes_part (get_or cs j 0) ≡ true

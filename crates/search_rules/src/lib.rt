@@ -12,6 +12,8 @@
 // that `peak` is the most candidates that live at once (`proofs/PeakLaws`). Steps of both searches are
 // evaluated (`proofs/InequalityExamples`, `proofs/FunctionalExamples`): these refuse the wrong
 // definitions of `must-fail/`.
+#![tactic(auto)]
+
 mod minimum;
 mod room;
 mod slack;
@@ -21,7 +23,7 @@ pub use room::search_fits;
 pub use slack::slack_of;
 
 // The lowest total so far, `cost`, and the candidate `tau` that it belongs to.
-#[derive(Drop)]
+#[derive(Clone, Copy)]
 pub struct Best {
     pub cost: f64,
     pub tau: usize,
@@ -30,7 +32,7 @@ pub struct Best {
 // What two candidates a < b mean to each other: two balls about the mean of the readings between them,
 // with the centre `cx`, `cy` and the squares of their radii. In the `outer` one, wider by the slack, a
 // may still win; in the `inner` one, narrower by it, b loses.
-#[derive(Drop)]
+#[derive(Clone, Copy)]
 pub struct Facing {
     pub cx: f64,
     pub cy: f64,

@@ -103,7 +103,9 @@ pub running_from_minus_zero : (xs : List Float) → EachFits xs → length xs �
 unfolding mean_from mean_of centred_to squares_to
 running_from_minus_zero xs held short zero h = (refl, refl)
 running_from_minus_zero xs held short (suc i) h = elim (starts xs held (length xs)) [
-  | inl e ↦ rw e (refl, refl)
+  | inl e ↦
+      let same : mean_from negative_zero xs ≡ mean_of xs = ap (λ (s : Float). s /ᶠ of_whole (length xs)) e in
+      (ap (λ (m : Float). centred_to xs m (suc i)) same, ap (λ (m : Float). squares_to xs m (suc i)) same)
   | inr all ↦ minus all
 ]
   where

@@ -4,6 +4,8 @@
 // No function asks anything of its caller. Each result is, to the bit, that of the definition which its
 // contract names; NaN and infinities flow through as IEEE 754 says. `specs/Sums` and `specs/EachChannel`
 // have the definitions.
+#![tactic(auto)]
+
 mod channels;
 mod running;
 mod total;

@@ -24,22 +24,22 @@ level = replicate 4 (of_whole 1)
 
 -- a chart whose sigma is 0
 abbrev bad_sums : Cusum
-bad_sums = Cusum.newOf +0 +0
+bad_sums = Cusum.new_of +0 +0
 
 -- charts whose settings are all out of range
 abbrev no_sums : Cusum
-no_sums = Cusum.withParams nan +0 (neg (of_whole 1)) +0
+no_sums = Cusum.with_params nan +0 (neg (of_whole 1)) +0
 
 abbrev no_averages : Ewma
-no_averages = Ewma.withParams nan +0 +0 +0 First
+no_averages = Ewma.with_params nan +0 +0 +0 First
 
 -- lambda 0.5 and L 4: the limits lie 0, 2, 2.236 and 2.291 from the target 0 at the places 0 to 3
 abbrev halving : Edition → Ewma
-halving edition = Ewma.withParams +0 (of_whole 1) (ratio 1 2) (of_whole 4) edition
+halving edition = Ewma.with_params +0 (of_whole 1) (ratio 1 2) (of_whole 4) edition
 
 -- lambda 1, and an L·sigma that is infinite
 abbrev unbounded : Ewma
-unbounded = Ewma.withParams +0 (ratio (10 ^ 200) 1) (of_whole 1) (ratio (10 ^ 200) 1) Second
+unbounded = Ewma.with_params +0 (ratio (10 ^ 200) 1) (of_whole 1) (ratio (10 ^ 200) 1) Second
 
 -- more readings than are taken
 abbrev too_many : List Float
@@ -222,7 +222,7 @@ chart_rows =
     -- Q46 the lower sum
     ∷ sums_are sums (neg (of_whole 8) ∷ of_whole 8 ∷ []) ((+0, ratio 15 2, Below) ∷ (ratio 15 2, +0, Above) ∷ [])
     -- Q47 infinity less infinity is no number, and the sum 0
-    ∷ sums_are (Cusum.newOf +0 (ratio 1 (10 ^ 300))) (ratio (10 ^ 300) 1 ∷ neg (ratio (10 ^ 300) 1) ∷ []) ((+∞, +0, Above) ∷ (+0, +∞, Below) ∷ [])
+    ∷ sums_are (Cusum.new_of +0 (ratio 1 (10 ^ 300))) (ratio (10 ^ 300) 1 ∷ neg (ratio (10 ^ 300) 1) ∷ []) ((+∞, +0, Above) ∷ (+0, +∞, Below) ∷ [])
     -- Q48 a gap is no signal, and its index is used up
     ∷ sums_signal sums (of_whole 8 ∷ nan ∷ of_whole 8 ∷ []) 2 (0 ∷ 2 ∷ 7 ∷ [])
     -- Q49 16 before 6
@@ -240,50 +240,50 @@ chart_rows =
     -- Q55 a gap is no signal of an EWMA
     ∷ averages_are averages (of_whole 4 ∷ nan ∷ []) ((of_whole 4, neg (of_whole 3), of_whole 3, Above) ∷ (of_whole 4, neg (of_whole 3), of_whole 3, None) ∷ [])
     -- Q56 limits by the place, from 1: with lambda 0.5 and L 4 the first are -2 and 2
-    ∷ averages_are (Ewma.withParams +0 (of_whole 1) (ratio 1 2) (of_whole 4) First) (of_whole 1 ∷ []) ((ratio 1 2, neg (of_whole 2), of_whole 2, None) ∷ [])
+    ∷ averages_are (Ewma.with_params +0 (of_whole 1) (ratio 1 2) (of_whole 4) First) (of_whole 1 ∷ []) ((ratio 1 2, neg (of_whole 2), of_whole 2, None) ∷ [])
     -- Q57 the second are beyond 2.125
-    ∷ averages_signal (Ewma.withParams +0 (of_whole 1) (ratio 1 2) (of_whole 4) First) (of_whole 0 ∷ ratio 17 4 ∷ []) 0 (7 ∷ 7 ∷ [])
+    ∷ averages_signal (Ewma.with_params +0 (of_whole 1) (ratio 1 2) (of_whole 4) First) (of_whole 0 ∷ ratio 17 4 ∷ []) 0 (7 ∷ 7 ∷ [])
     -- Q58 and below 2.25
-    ∷ averages_signal (Ewma.withParams +0 (of_whole 1) (ratio 1 2) (of_whole 4) First) (of_whole 0 ∷ ratio 9 2 ∷ []) 1 (1 ∷ 7 ∷ [])
+    ∷ averages_signal (Ewma.with_params +0 (of_whole 1) (ratio 1 2) (of_whole 4) First) (of_whole 0 ∷ ratio 9 2 ∷ []) 1 (1 ∷ 7 ∷ [])
     -- Q59 lambda 0, and no room
-    ∷ averages_refuse (Ewma.withParams +0 (of_whole 1) +0 (of_whole 3) First) (wholes (3 ∷ [])) 0 (plain 17)
+    ∷ averages_refuse (Ewma.with_params +0 (of_whole 1) +0 (of_whole 3) First) (wholes (3 ∷ [])) 0 (plain 17)
     ∷ []
 
 -- ---- settings of charts that are out of range: the first of them is named
 unfoldable pub setting_rows : List Row
 setting_rows =
     -- Q88 15 before 16, on a series without readings
-    sums_refuse (Cusum.withParams nan +0 (ratio 1 2) (of_whole 5)) [] 0 (plain 15)
+    sums_refuse (Cusum.with_params nan +0 (ratio 1 2) (of_whole 5)) [] 0 (plain 15)
     -- Q89 16 before 17
-    ∷ sums_refuse (Cusum.withParams +0 +∞ (neg (of_whole 1)) (of_whole 5)) (wholes (3 ∷ [])) 1 (plain 16)
+    ∷ sums_refuse (Cusum.with_params +0 +∞ (neg (of_whole 1)) (of_whole 5)) (wholes (3 ∷ [])) 1 (plain 16)
     -- Q90 17 before 18
-    ∷ sums_refuse (Cusum.withParams +0 (of_whole 1) nan +0) (wholes (3 ∷ [])) 1 (plain 17)
+    ∷ sums_refuse (Cusum.with_params +0 (of_whole 1) nan +0) (wholes (3 ∷ [])) 1 (plain 17)
     -- Q91 18 before 6
-    ∷ sums_refuse (Cusum.withParams +0 (of_whole 1) (ratio 1 2) +0) too_many 0 (plain 18)
+    ∷ sums_refuse (Cusum.with_params +0 (of_whole 1) (ratio 1 2) +0) too_many 0 (plain 18)
     -- Q92 18 before 8
-    ∷ refuses_to_hear (Cusum.withParams +0 (of_whole 1) (ratio 1 2) +∞) nan Upper (plain 18)
+    ∷ refuses_to_hear (Cusum.with_params +0 (of_whole 1) (ratio 1 2) +∞) nan Upper (plain 18)
     -- Q93 all four, with too many readings and no room
     ∷ sums_refuse no_sums too_many 0 (plain 15)
     -- Q94 all four, with a level that is not finite
     ∷ refuses_to_hear no_sums nan Lower (plain 15)
     -- Q95 a sigma of -0
-    ∷ sums_refuse (Cusum.newOf +0 (neg +0)) (wholes (3 ∷ [])) 1 (plain 16)
+    ∷ sums_refuse (Cusum.new_of +0 (neg +0)) (wholes (3 ∷ [])) 1 (plain 16)
     -- Q96 a target and a k of -0 are accepted
-    ∷ sums_are (Cusum.withParams (neg +0) (of_whole 1) (neg +0) (of_whole 5)) (wholes (8 ∷ [])) ((of_whole 8, +0, Above) ∷ [])
+    ∷ sums_are (Cusum.with_params (neg +0) (of_whole 1) (neg +0) (of_whole 5)) (wholes (8 ∷ [])) ((of_whole 8, +0, Above) ∷ [])
     -- Q97 an h of -0
-    ∷ refuses_to_hear (Cusum.withParams +0 (of_whole 1) (ratio 1 2) (neg +0)) (of_whole 3) Upper (plain 18)
+    ∷ refuses_to_hear (Cusum.with_params +0 (of_whole 1) (ratio 1 2) (neg +0)) (of_whole 3) Upper (plain 18)
     -- Q98 15 before 16 of an EWMA, all four, with too many readings and no room
     ∷ averages_refuse no_averages too_many 0 (plain 15)
     -- Q99 16 before 17 of an EWMA
-    ∷ averages_refuse (Ewma.withParams +0 (neg +0) (of_whole 2) (of_whole 3) First) [] 0 (plain 16)
+    ∷ averages_refuse (Ewma.with_params +0 (neg +0) (of_whole 2) (of_whole 3) First) [] 0 (plain 16)
     -- Q100 17 before 18 of an EWMA
-    ∷ averages_refuse (Ewma.withParams +0 (of_whole 1) (of_whole 2) +0 First) (wholes (3 ∷ [])) 1 (plain 17)
+    ∷ averages_refuse (Ewma.with_params +0 (of_whole 1) (of_whole 2) +0 First) (wholes (3 ∷ [])) 1 (plain 17)
     -- Q101 18 before 6 of an EWMA
-    ∷ averages_refuse (Ewma.withParams +0 (of_whole 1) (of_whole 1) +∞ First) too_many 0 (plain 18)
+    ∷ averages_refuse (Ewma.with_params +0 (of_whole 1) (of_whole 1) +∞ First) too_many 0 (plain 18)
     -- Q102 a lambda of -0
-    ∷ averages_refuse (Ewma.withParams +0 (of_whole 1) (neg +0) (of_whole 3) First) (wholes (3 ∷ [])) 1 (plain 17)
+    ∷ averages_refuse (Ewma.with_params +0 (of_whole 1) (neg +0) (of_whole 3) First) (wholes (3 ∷ [])) 1 (plain 17)
     -- Q103 an L of -0
-    ∷ averages_refuse (Ewma.withParams +0 (of_whole 1) (of_whole 1) (neg +0) First) (wholes (3 ∷ [])) 1 (plain 18)
+    ∷ averages_refuse (Ewma.with_params +0 (of_whole 1) (of_whole 1) (neg +0) First) (wholes (3 ∷ [])) 1 (plain 18)
     ∷ []
 
 -- ---- the sides of records
@@ -310,7 +310,7 @@ side_rows =
     -- Q113 and at the lower one
     ∷ averages_are averages (neg (of_whole 3) ∷ []) ((neg (of_whole 3), neg (of_whole 3), of_whole 3, None) ∷ [])
     -- Q114 an infinite L·sigma times a zero width: limits that are no numbers, and no side
-    ∷ averages_are (Ewma.withParams +0 (ratio (10 ^ 200) 1) (ratio 1 (2 ^ 60)) (ratio (10 ^ 200) 1) First) (of_whole 1 ∷ []) ((ratio 1 (2 ^ 60), nan, nan, None) ∷ [])
+    ∷ averages_are (Ewma.with_params +0 (ratio (10 ^ 200) 1) (ratio 1 (2 ^ 60)) (ratio (10 ^ 200) 1) First) (of_whole 1 ∷ []) ((ratio 1 (2 ^ 60), nan, nan, None) ∷ [])
     -- Q115 an EWMA signals on both sides
     ∷ averages_signal averages (neg (ratio 7 2) ∷ of_whole 3 ∷ ratio 7 2 ∷ []) 2 (0 ∷ 2 ∷ 7 ∷ [])
     -- Q116 none again, once the sums are down
@@ -318,7 +318,7 @@ side_rows =
     -- Q117 a statistic that falls is still above
     ∷ averages_are averages (of_whole 4 ∷ ratio 7 2 ∷ []) ((of_whole 4, neg (of_whole 3), of_whole 3, Above) ∷ (ratio 7 2, neg (of_whole 3), of_whole 3, Above) ∷ [])
     -- Q118 the side is by the limits about the target
-    ∷ averages_are (Ewma.withParams (of_whole 10) (of_whole 1) (of_whole 1) (of_whole 3) First) (wholes (12 ∷ [])) ((of_whole 12, of_whole 7, of_whole 13, None) ∷ [])
+    ∷ averages_are (Ewma.with_params (of_whole 10) (of_whole 1) (of_whole 1) (of_whole 3) First) (wholes (12 ∷ [])) ((of_whole 12, of_whole 7, of_whole 13, None) ∷ [])
     ∷ []
 
 -- ---- the editions of an EWMA: which place a reading has
@@ -333,7 +333,7 @@ edition_rows =
     -- Q122 all gaps
     ∷ averages_are (halving Second) (nan ∷ -∞ ∷ []) ((+0, +0, +0, None) ∷ (+0, +0, +0, None) ∷ [])
     -- Q123 a target of -0: limits are computed
-    ∷ averages_are (Ewma.withParams (neg +0) (of_whole 1) (ratio 1 2) (of_whole 4) Second) (nan ∷ []) ((neg +0, neg +0, +0, None) ∷ [])
+    ∷ averages_are (Ewma.with_params (neg +0) (of_whole 1) (ratio 1 2) (of_whole 4) Second) (nan ∷ []) ((neg +0, neg +0, +0, None) ∷ [])
     -- Q124 an infinite L·sigma times the zero width of place 0
     ∷ averages_are unbounded (nan ∷ []) ((+0, nan, nan, None) ∷ [])
     -- Q125 and times the width of place 1
@@ -343,13 +343,13 @@ edition_rows =
     -- Q127 and at place 3 of the first
     ∷ averages_signal (halving First) (of_whole 0 ∷ nan ∷ ratio 227 50 ∷ []) 0 (7 ∷ 7 ∷ 7 ∷ [])
     -- Q128 a chart by `new` has the edition that it is given
-    ∷ averages_are (Ewma.newOf +0 (of_whole 1) Second) (nan ∷ []) ((+0, +0, +0, None) ∷ [])
+    ∷ averages_are (Ewma.new_of +0 (of_whole 1) Second) (nan ∷ []) ((+0, +0, +0, None) ∷ [])
     -- Q129 be it the first
-    ∷ averages_are (Ewma.newOf +0 (of_whole 1) First) (nan ∷ []) ((+0, neg (of_pattern 0x3fe3333333333332), of_pattern 0x3fe3333333333332, None) ∷ [])
+    ∷ averages_are (Ewma.new_of +0 (of_whole 1) First) (nan ∷ []) ((+0, neg (of_pattern 0x3fe3333333333332), of_pattern 0x3fe3333333333332, None) ∷ [])
     -- Q130 the side is by the limits of the place: 2.125 is beyond those of place 1
     ∷ averages_are (halving Second) (nan ∷ ratio 17 4 ∷ []) ((+0, +0, +0, None) ∷ (ratio 17 8, neg (of_whole 2), of_whole 2, Above) ∷ [])
     -- Q131 the settings are tested in the second edition too
-    ∷ averages_refuse (Ewma.withParams +0 (of_whole 1) +0 (of_whole 3) Second) (nan ∷ []) 0 (plain 17)
+    ∷ averages_refuse (Ewma.with_params +0 (of_whole 1) +0 (of_whole 3) Second) (nan ∷ []) 0 (plain 17)
     -- Q132 and more readings than are taken are refused
     ∷ averages_refuse (halving Second) too_many 0 (plain 6)
     -- Q133 a gap after a signal is none, and what follows it has place 2

@@ -6,3 +6,4 @@
 // `elementary: ln` cite, each under a single statement (`proofs/Tables`: `marked`, `further`) and with as
 // many rows as `sizes` says, and that whatever meets such a contract says and leaves what a row does
 // (`proofs/Contracts`).
+#![tactic(auto)]

@@ -1,24 +1,21 @@
 -- How the lent areas hold a state of the search, for the private functions. Definitions only.
-use Rattle.std.specs.Prelude.{ℕ, zero, suc, ◌+◌, ◌-◌, ◌*◌, ◌%◌, ◌≤◌, ◌<◌, ◌≡◌, Bool, true, false, List, [], ◌∷◌, ◌++◌, leb, ltb, length, get_or, set, drop, Float}
+use Rattle.std.specs.Prelude.{ℕ, zero, suc, ◌+◌, ◌-◌, ◌*◌, ◌%◌, ◌≤◌, ◌<◌, ◌≡◌, Bool, true, false, List, [], ◌∷◌, leb, ltb, length, get_or, set, drop, Float}
 use Rattle.std.specs.Float.{nan}
 use Rattle.refusals.specs.Limits.{max_readings}
 use Rattle.candidate_balls.specs.Losing.{losing_balls}
 use Rattle.search_rules.specs.Limits.{functional_channels, slot_floats}
-use Rattle.floats.specs.Numbers.{◌+ᶠ◌, ◌-ᶠ◌, ◌*ᶠ◌, ◌/ᶠ◌, +0, of_whole, ratio}
-use Rattle.floats.specs.Finite.{abs}
 use Rattle.areas.specs.Parts.{part, tab, Frame}
 use Rattle.sums.specs.EachChannel.{Sums}
-use Rattle.search_rules.specs.Minimum.{scan_to}
 use Rattle.candidate.specs.declared.Candidate.{Candidate}
 use Rattle.candidate_balls.specs.declared.Ball.{Ball}
-use Rattle.candidate.specs.Boxes.{at, ball_of, restrict}
+use Rattle.candidate.specs.Boxes.{at, restrict}
 use Rattle.candidate.specs.Balls.{held_at, balls_at, meant, Rooted}
 use Rattle.candidate.specs.Cuts.{cut_losing}
 use Rattle.candidate.specs.Dominated.{is_dominated}
 use Rattle.candidate.specs.Losses.{lose_inside}
 use Rattle.functional.specs.declared.Plan.{Plan}
 use Rattle.search_rules.specs.declared.Facing.{Facing}
-use Rattle.search_rules.specs.Functional.{Task, Living, State, price, outer_ball, inner_ball, living_at, cut_back, range_box, joined_by, join_of, state_after, functional}
+use Rattle.search_rules.specs.Functional.{Task, Living, outer_ball, living_at, cut_back, range_box, joined_by, join_of, state_after, functional}
 
 -- ---- the plan
 

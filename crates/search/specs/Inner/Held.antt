@@ -3,11 +3,9 @@ use Rattle.std.specs.Prelude.{ℕ, ◌+◌, ◌≡◌, Bool, true, false, List}
 use Rattle.costs.specs.declared.CostFunction.{CostFunction}
 use Rattle.costs.specs.declared.CostFunction.TheVariants.{L2, Normal}
 use Rattle.costs.specs.declared.Penalty.{Penalty}
-use Rattle.costs.specs.declared.Penalty.TheVariants as Penalty
 use Rattle.areas.specs.Cleared.{Cleared}
 use Rattle.backtrack.specs.Backtracked.{Backtracked}
 use Rattle.refusals.specs.declared.Answer.{Answer}
-use Rattle.refusals.specs.declared.Answer.TheVariants as Answer
 
 -- BIC for L2 is worked out from the noise
 unfoldable pub asks_noise : Penalty → CostFunction → Bool

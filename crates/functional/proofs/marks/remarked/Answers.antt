@@ -1,0 +1,10 @@
+use mathlib.Core.Path.{refl}
+use Rattle.functional.specs.Inner.Held.{balls_in}
+use Rattle.functional.proofs.marks.remarked.Goals as goal
+
+pub returns-then-stayed : goal.returns-then-stayed
+returns-then-stayed c = rw c.if-stayed.true refl
+
+pub returns : goal.returns
+unfolding balls_in
+returns c = rw c.if-stayed.false refl

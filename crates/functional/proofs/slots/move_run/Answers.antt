@@ -1,0 +1,24 @@
+use mathlib.Core.Path.{refl}
+use Prim.Native.Nat.{◌+◌}
+use native.Mathlib.Omega.{arith}
+use native.Mathlib.Nat.{le_antisymm}
+use lib.ListN.{length-set}
+use Rattle.functional.proofs.SlotLaws.{copied_none, copied_more, copied_all, copied_beyond}
+use Rattle.functional.proofs.slots.move_run.Goals as goal
+
+pub loop-i-init : goal.loop-i-init
+loop-i-init c = (omega arith, refl, copied_none _ _ _ _)
+
+pub loop-i-preserved : goal.loop-i-preserved
+loop-i-preserved c =
+    let a = c.args in
+    let l = c.loop-i in
+    (omega arith, simp length-set l.invariant.1, copied_more a.pool.now a.to a.place l.i _ _ l.invariant.2 refl (omega arith) (omega arith) (copied_beyond (a.place + l.i) l.invariant.2 (omega arith)))
+
+pub shape_of-pool : goal.shape_of-pool
+shape_of-pool c = c.loop-i.invariant.1
+
+pub returns : goal.returns
+returns c =
+    let a = c.args in
+    copied_all a.pool.now a.to a.place (le_antisymm (omega arith) (omega arith)) c.loop-i.invariant.2

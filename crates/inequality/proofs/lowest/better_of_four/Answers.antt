@@ -1,0 +1,7 @@
+-- `inequality::lowest::better_of_four` meets its contract, whether one of the four is below the best or none. Assumes nothing.
+use mathlib.Core.Path.{refl, sym, ◌∙◌}
+use Rattle.inequality.proofs.LowestLaws.{lowest_four}
+use Rattle.inequality.proofs.lowest.better_of_four.Goals as goal
+
+pub returns : goal.returns
+returns c = let a = c.args in lowest_four a.plan a.floats.now a.indices.now a.j _ _ a.best c.requires.3 refl refl (sym c.one_below.ensures ∙ c.if-one_below.false)
