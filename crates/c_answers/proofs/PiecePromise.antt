@@ -15,9 +15,7 @@ use Rattle.refusals.specs.declared.Refusal.{Refusal}
 use Rattle.refusals.proofs.ValueLaws.{number_bounds}
 use Rattle.piece.specs.declared.PieceSummary.{PieceSummary}
 use Rattle.piece.specs.declared.Spread.{Spread}
-use Rattle.piece.specs.declared.Spread.TheVariants as Spread
 use Rattle.piece.specs.declared.Summarised.{Summarised}
-use Rattle.piece.specs.declared.Summarised.TheVariants as Summarised
 use Rattle.piece.specs.Piece.{summarised_as}
 use Rattle.piece.proofs.SpreadLaws.{summary_absent, spread_more, summary_unsigned}
 use Rattle.piece.proofs.GapLaws.{gap_mean, gap_spread}

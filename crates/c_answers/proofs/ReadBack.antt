@@ -10,9 +10,7 @@ use Rattle.refusals.specs.Said.{Said, answered, refusing, said}
 use Rattle.refusals.proofs.Apart.{eight_is_gap, nine_is_pool}
 use Rattle.refusals.proofs.ValueLaws.{number_bounds}
 use Rattle.refusals.specs.declared.Refusal.{Refusal}
-use Rattle.refusals.specs.declared.Refusal.TheVariants as Refusal
 use Rattle.refusals.specs.declared.Answer.{Answer}
-use Rattle.refusals.specs.declared.Answer.TheVariants as Answer
 use Rattle.c_answers.specs.declared.Told.{Told}
 use Rattle.c_answers.specs.declared.Counted.{Counted}
 use Rattle.c_answers.specs.Told.{told_as, told_of, counted_as, counted_of}

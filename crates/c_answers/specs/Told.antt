@@ -11,9 +11,7 @@ use Rattle.charts.specs.declared.Sum.{Sum}
 use Rattle.charts.specs.declared.Sum.TheVariants.{Upper, Lower}
 use Rattle.cusum.specs.RunLength.{run_length}
 use Rattle.piece.specs.declared.Spread.{Spread}
-use Rattle.piece.specs.declared.Spread.TheVariants as Spread
 use Rattle.piece.specs.declared.Summarised.{Summarised}
-use Rattle.piece.specs.declared.Summarised.TheVariants as Summarised
 use Rattle.c_answers.specs.declared.Told.{Told}
 use Rattle.c_answers.specs.declared.Counted.{Counted}
 use Rattle.c_answers.specs.declared.ToldSpread.{ToldSpread}

@@ -3,7 +3,9 @@
 //
 // No function asks anything of its caller. `specs/Told` has what is told of each answer, by what it
 // says in the rules' numbers. A run length, which is numbers alone, is asked here too.
-mod sums;
+#![tactic(auto)]
+
+mod run_lengths;
 
 ghost use Rattle.std.specs.Prelude.{◌≡◌, [], ◌∷◌};
 ghost use Rattle.refusals.specs.Stated.{stated};
@@ -14,11 +16,11 @@ ghost use Rattle.c_answers.specs.Told.{told_of, briefly, counted_of, spread_told
 use charts::Heard;
 use piece::{Spread, Summarised};
 use refusals::{Answer, Refusal};
-pub use sums::run_length;
+pub use run_lengths::run_length;
 
 // An answer that says at most one whole number: `number` is 0 or the refusal's, `count` that whole
 // number, and `channel` and `index` are those of the reading that refusal 8 names.
-#[derive(Drop)]
+#[derive(Clone, Copy)]
 pub struct Told {
     pub number: u32,
     pub count: usize,
@@ -27,14 +29,14 @@ pub struct Told {
 }
 
 // The same without the channel and the index.
-#[derive(Drop)]
+#[derive(Clone, Copy)]
 pub struct Counted {
     pub number: u32,
     pub count: usize,
 }
 
 // A piece's spread: `has` is 1, and `value` the spread; or both are 0 where there is none.
-#[derive(Drop)]
+#[derive(Clone, Copy)]
 struct ToldSpread {
     has: u32,
     value: f64,
@@ -42,7 +44,7 @@ struct ToldSpread {
 
 // A piece's summary: `number` is 0 or the refusal's, and the others are the summary's values. Where there
 // is no spread `has_spread` is 0, and else 1.
-#[derive(Drop)]
+#[derive(Clone, Copy)]
 pub struct ToldPiece {
     pub number: u32,
     pub length: usize,

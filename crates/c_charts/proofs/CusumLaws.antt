@@ -1,17 +1,19 @@
 -- The loop that fills the arrays of a CUSUM chart: they have room, their lengths stay, and one reading more. Assumes nothing.
-use mathlib.Core.Path.{◌≡◌, refl}
+use mathlib.Core.Path.{◌≡◌, refl, ap, ◌∙◌}
 use Prim.Native.Nat.{ℕ, ◌+◌, ◌≤◌, ◌<◌}
 use mathlib.Core.Bool.{Bool}
 use mathlib.Core.List.{List}
 use native.Mathlib.Omega.{arith}
 use lib.ListN.{length, set}
 use lib.Ieee.{Float, nan}
+use Rattle.refusals.specs.Limits.{max_readings}
 use Rattle.refusals.specs.Tried.{count_of}
 use Rattle.refusals.specs.Said.{said}
 use Rattle.refusals.specs.declared.Refusal.{Refusal}
+use Rattle.refusals.specs.declared.Answer.{Answer}
 use Rattle.charts.specs.Answers.{admitted_as}
 use Rattle.charts.specs.Runs.{column}
-use Rattle.charts.proofs.Answers.{within_both}
+use Rattle.charts.proofs.Answers.{within_both, few_records}
 use Rattle.charts.proofs.Columns.{Going, filled_length, one_gone, one_filled, all_filled}
 use Rattle.cusum.specs.declared.Cusum.{Cusum}
 use Rattle.cusum.specs.declared.State.{State}
@@ -41,6 +43,21 @@ written_room ts n upper lower side index =
     let k = within_both ts n (room_of upper lower side index) in
     let s = shortest_least (length upper) (length lower) (length side) (length index) in
     (k.0, record { upper_room = omega (arith, k.1, s.0); lower_room = omega (arith, k.1, s.1); side_room = omega (arith, k.1, s.2); index_room = omega (arith, k.1, s.3) })
+
+-- what is known as the loop begins, of the answer for that room and its count `k`
+pub record Begun (ts : List (Bool × Refusal)) (n k : ℕ) (upper lower : List Float) (side index : List ℕ) (answer : Answer) : Type 0 where
+  pub answered : answer ≡ admitted_as ts n (room_of upper lower side index)
+  pub counted : k ≡ count_of (admitted_as ts n (room_of upper lower side index))
+  pub readings : k ≤ n
+  pub room : Room k upper lower side index
+  pub few : k ≤ max_readings
+
+pub begun : (ts : List (Bool × Refusal)) (n k room : ℕ) (upper lower : List Float) (side index : List ℕ) (answer : Answer) → room ≡ room_of upper lower side index → answer ≡ admitted_as ts n room → k ≡ count_of answer → Begun ts n k upper lower side index answer
+begun ts n k room upper lower side index answer r e f =
+    let a : answer ≡ admitted_as ts n (room_of upper lower side index) = e ∙ ap (admitted_as ts n) r in
+    let c : k ≡ count_of (admitted_as ts n (room_of upper lower side index)) = f ∙ ap count_of a in
+    let w = written_room ts n upper lower side index in
+    record { answered = a; counted = c; readings = rw c w.0; room = rw c w.1; few = rw c (few_records ts n (room_of upper lower side index)) }
 
 module _ {c : Cusum} {xs : List Float} {n i : ℕ} {upper upper' lower lower' : List Float} {side side' index index' : List ℕ} {s : State}
     (room : Room n upper lower side index) (g : Going shown_of start_state next_state c xs n s i) (f : Filled c xs i upper upper' lower lower' side side' index index') where

@@ -8,7 +8,6 @@ use lib.Ieee.{Float}
 use Rattle.refusals.specs.Tried.{tried}
 use Rattle.refusals.specs.declared.Refusal.TheVariants as Refusal
 use Rattle.refusals.specs.declared.Answer.{Answer}
-use Rattle.refusals.specs.declared.Answer.TheVariants as Answer
 use Rattle.charts.specs.Answers.{chart_answer}
 use Rattle.charts.specs.Outcomes.{provided}
 use Rattle.charts.specs.Runs.{lent}

@@ -1,17 +1,19 @@
 -- The loop that fills the arrays of an EWMA chart: they have room, their lengths stay, and one reading more. Assumes nothing.
-use mathlib.Core.Path.{◌≡◌, refl}
+use mathlib.Core.Path.{◌≡◌, refl, ap, ◌∙◌}
 use Prim.Native.Nat.{ℕ, ◌+◌, ◌≤◌, ◌<◌}
 use mathlib.Core.Bool.{Bool}
 use mathlib.Core.List.{List}
 use native.Mathlib.Omega.{arith}
 use lib.ListN.{length, set}
 use lib.Ieee.{Float, nan}
+use Rattle.refusals.specs.Limits.{max_readings}
 use Rattle.refusals.specs.Tried.{count_of}
 use Rattle.refusals.specs.Said.{said}
 use Rattle.refusals.specs.declared.Refusal.{Refusal}
+use Rattle.refusals.specs.declared.Answer.{Answer}
 use Rattle.charts.specs.Answers.{admitted_as}
 use Rattle.charts.specs.Runs.{column, following}
-use Rattle.charts.proofs.Answers.{within_both}
+use Rattle.charts.proofs.Answers.{within_both, few_records}
 use Rattle.charts.proofs.Columns.{Going, filled_length, one_gone, one_filled, all_filled}
 use Rattle.ewma.specs.declared.Ewma.{Ewma}
 use Rattle.ewma.specs.Chart.{Charted, records, record_of, fresh, next_of}
@@ -46,6 +48,21 @@ written_room ts n ewma ucl lcl side index =
     let h = shorter_least (length ewma) (length ucl) in
     let s = shortest_least (shorter (length ewma) (length ucl)) (length lcl) (length side) (length index) in
     (k.0, record { ewma_room = omega (arith, k.1, s.0, h.0); ucl_room = omega (arith, k.1, s.0, h.1); lcl_room = omega (arith, k.1, s.1); side_room = omega (arith, k.1, s.2); index_room = omega (arith, k.1, s.3) })
+
+-- what is known as the loop begins, of the answer for that room and its count `k`
+pub record Begun (ts : List (Bool × Refusal)) (n k : ℕ) (ewma ucl lcl : List Float) (side index : List ℕ) (answer : Answer) : Type 0 where
+  pub answered : answer ≡ admitted_as ts n (room_of ewma ucl lcl side index)
+  pub counted : k ≡ count_of (admitted_as ts n (room_of ewma ucl lcl side index))
+  pub readings : k ≤ n
+  pub room : Room k ewma ucl lcl side index
+  pub few : k ≤ max_readings
+
+pub begun : (ts : List (Bool × Refusal)) (n k room : ℕ) (ewma ucl lcl : List Float) (side index : List ℕ) (answer : Answer) → room ≡ room_of ewma ucl lcl side index → answer ≡ admitted_as ts n room → k ≡ count_of answer → Begun ts n k ewma ucl lcl side index answer
+begun ts n k room ewma ucl lcl side index answer r e f =
+    let a : answer ≡ admitted_as ts n (room_of ewma ucl lcl side index) = e ∙ ap (admitted_as ts n) r in
+    let c : k ≡ count_of (admitted_as ts n (room_of ewma ucl lcl side index)) = f ∙ ap count_of a in
+    let w = written_room ts n ewma ucl lcl side index in
+    record { answered = a; counted = c; readings = rw c w.0; room = rw c w.1; few = rw c (few_records ts n (room_of ewma ucl lcl side index)) }
 
 module _ {c : Ewma} {xs : List Float} {n i : ℕ} {ewma ewma' ucl ucl' lcl lcl' : List Float} {side side' index index' : List ℕ} {s : Charted}
     (room : Room n ewma ucl lcl side index) (g : Going record_of fresh next_of c xs n s i) (f : Filled c xs i ewma ewma' ucl ucl' lcl lcl' side side' index index') where

@@ -12,7 +12,6 @@ use Rattle.refusals.specs.Stated.{stated}
 use Rattle.refusals.specs.Tried.{tried}
 use Rattle.refusals.specs.Said.{answered, refusing, said}
 use Rattle.refusals.specs.declared.Refusal.{Refusal}
-use Rattle.refusals.specs.declared.Refusal.TheVariants as Refusal
 use Rattle.refusals.specs.declared.Answer.{Answer}
 use Rattle.charts.specs.declared.InRange.{InRange}
 use Rattle.charts.specs.Settings.{setting_tests, Named}

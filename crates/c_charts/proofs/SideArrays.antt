@@ -12,7 +12,6 @@ use Rattle.refusals.specs.Tried.{passed, count_of}
 use Rattle.refusals.specs.Said.{said}
 use Rattle.refusals.specs.declared.Refusal.{Refusal}
 use Rattle.refusals.specs.declared.Answer.{Answer}
-use Rattle.refusals.specs.declared.Answer.TheVariants as Answer
 use Rattle.charts.specs.Answers.{admitted_as}
 use Rattle.charts.specs.Runs.{column}
 use Rattle.charts.specs.Sides.{faces, side_number}

@@ -1,7 +1,6 @@
 -- An EWMA chart asked for in plain numbers: its edition, and the tests of what is asked. Rules 5.7 and 8.1. Definitions only.
 use Rattle.std.specs.Prelude.{ℕ, Bool, not, ◌||◌, cond, List, ◌∷◌, eqb, length, Float}
 use Rattle.refusals.specs.declared.Refusal.{Refusal}
-use Rattle.refusals.specs.declared.Refusal.TheVariants as Refusal
 use Rattle.refusals.specs.declared.Answer.{Answer}
 use Rattle.charts.specs.Outcomes as Outcomes
 use Rattle.ewma.specs.declared.Edition.{Edition}

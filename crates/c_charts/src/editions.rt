@@ -18,6 +18,7 @@ fn is_edition(edition: u32) -> bool
 }
 
 // The edition with the number `edition`: 1 is the first, any other number the second.
+#[tactic(auto, unfolding(crate::specs::Editions::edition_of))]
 fn edition_of(edition: u32) -> Edition
     ensures { result ≡ edition_of edition }
 {

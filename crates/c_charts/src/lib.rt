@@ -5,6 +5,8 @@
 // chart's `analyze` writes, and behind them what it held. A refusal changes nothing; 7 is told where
 // any array is too short. An EWMA chart is asked for by numbers, its edition among them, of which
 // `specs/Editions` says what they stand for (rule 8.1).
+#![tactic(auto)]
+
 mod cusum_columns;
 mod editions;
 mod ewma_columns;
@@ -17,7 +19,7 @@ pub use editions::ewma_signal_points;
 pub use ewma_columns::ewma_analyze;
 
 // The settings of an EWMA chart, with its `edition` as a number.
-#[derive(Drop)]
+#[derive(Clone, Copy)]
 pub struct EwmaSettings {
     pub target: f64,
     pub sigma: f64,

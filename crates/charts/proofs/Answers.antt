@@ -11,7 +11,6 @@ use Rattle.refusals.specs.Said.{answered, refusing, said}
 use Rattle.refusals.proofs.TriedLaws.{tried_map, tried_passed, passed_first, passed_rest, passed_left, passed_right, no_count, passes, refuses, verdict}
 use Rattle.refusals.specs.declared.Refusal.{Refusal}
 use Rattle.refusals.specs.declared.Answer.{Answer}
-use Rattle.refusals.specs.declared.Answer.TheVariants as Answer
 use Rattle.charts.specs.Answers.{size_tests, chart_tests, chart_answer, admitted_as}
 
 -- in the rules' numbers
@@ -56,3 +55,12 @@ few_records ts n room = elim (verdict (chart_tests ts n room)) [
   | passes p ↦ rw (passed_count ts n room p n) (few ts n room p)
   | refuses r f ↦ rw (f n) (omega arith)
 ]
+
+-- the same of a count `k` of such an answer
+pub record Fits (n room k : ℕ) : Type 0 where
+  pub readings : k ≤ n
+  pub records : k ≤ room
+  pub few : k ≤ max_readings
+
+pub counted_fits : (ts : List (Bool × Refusal)) (n room : ℕ) (answer : Answer) (k : ℕ) → answer ≡ admitted_as ts n room → k ≡ count_of answer → Fits n room k
+counted_fits ts n room answer k e f = let both = within_both ts n room in rw (f, e) (record { readings = both.0; records = both.1; few = few_records ts n room })

@@ -2,7 +2,6 @@
 use mathlib.Core.Path.{◌≡◌, refl, ap}
 use Rattle.refusals.proofs.Apart.{refused_apart}
 use Rattle.charts.specs.declared.Heard.{Heard}
-use Rattle.charts.specs.declared.Heard.TheVariants as Heard
 use Rattle.charts.specs.Hearing.{heard_as}
 
 pub heard_once : (r q : Heard) → heard_as r ≡ heard_as q → r ≡ q

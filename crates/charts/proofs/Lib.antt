@@ -3,11 +3,7 @@ pub mod SideLaws
 pub mod HearingLaws
 pub mod SettingLaws
 pub mod Loops
-pub mod AnswerKind
-pub mod Plain
 pub mod Runs
 pub mod Written
 pub mod Points
 pub mod Columns
-pub mod Walk
-pub mod ByValue

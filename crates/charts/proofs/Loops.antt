@@ -1,4 +1,4 @@
--- The two loops over a series, for any chart: what is known in that of `signal_points` after `i` readings, and that both come to the outcomes of their contracts. Assumes nothing.
+-- The two loops over a series, for any chart: what is known in that of `analyze` and in that of `signal_points` after `i` readings, and that both come to the outcomes of their contracts. Assumes nothing.
 use mathlib.Core.Path.{◌≡◌, refl, sym, ◌∙◌, ap, ap₂}
 use Prim.Native.Nat.{ℕ, suc, ◌≤◌, ◌<◌, ◌+◌}
 use mathlib.Core.Bool.{Bool, true, false, cond}
@@ -13,15 +13,38 @@ use Rattle.refusals.specs.Tried.{count_of}
 use Rattle.refusals.proofs.TriedLaws.{passes, refuses, verdict}
 use Rattle.refusals.specs.declared.Refusal.{Refusal}
 use Rattle.refusals.specs.declared.Answer.{Answer}
-use Rattle.refusals.specs.declared.Answer.TheVariants as Answer
 use Rattle.charts.specs.Runs.{state_at, records, points, lent}
-use Rattle.charts.proofs.Runs.{lent_more, length_lent, points_few, written, written_lent}
+use Rattle.charts.proofs.Runs.{lent_more, length_lent, length_written, points_few, written, written_lent}
 use Rattle.charts.specs.Answers.{chart_tests, chart_answer, admitted_as, recounted}
 use Rattle.charts.specs.Outcomes.{analyzed, provided, signalled}
 use Rattle.charts.specs.Notes.{noted}
 use Rattle.charts.proofs.Answers.{passed_count, within_both}
 
--- `points` stand at the front of the lent indices, and `count` is their number
+-- ---- the loop of `analyze`
+module _ {C S D : Type 0} (shown : S → D) (start : C → S) (step : C → S → ℕ → Float → S) (c : C) (xs : List Float) (n : ℕ) (entry : List D) where
+  -- after `i` readings the state is `s`, and `l` is what the lent list `entry` has become
+  pub record Recording (s : S) (i : ℕ) (l : List D) : Type 0 where
+    pub within : i ≤ n
+    pub state : s ≡ state_at shown start step c xs i
+    pub writes : l ≡ written shown start step c xs i entry
+
+  pub none_recorded : Recording (start c) 0 entry
+  none_recorded = record { within = omega arith; state = refl; writes = refl }
+
+  module _ (s : S) (i : ℕ) (l : List D) (r : Recording s i l) where
+    pub recorded_length : length l ≡ length entry
+    recorded_length = ap length r.writes ∙ length_written shown start step c xs i entry
+
+    -- a turn: the reading at `i`, and its record written
+    pub one_recorded : (s' : S) → i < n → s' ≡ step c s i (get_or xs i nan) → Recording s' (i + 1) (set l i (shown s'))
+    one_recorded s' below next =
+        let moves : s' ≡ state_at shown start step c xs (suc i) = next ∙ ap (λ (t : S). step c t i (get_or xs i nan)) r.state in
+        record { within = omega (arith, below); state = rw add-one moves; writes = rw (add-one, r.writes, moves) refl }
+
+    pub all_recorded : n ≤ i → l ≡ written shown start step c xs n entry
+    all_recorded h = let e : n ≡ i = omega (arith, h, r.within) in rw e r.writes
+
+-- ---- the loop of `signal_points`: `points` stand at the front of the lent indices, and `count` is their number
 pub record Stands (points entry : List ℕ) (count : ℕ) (exit : List ℕ) : Type 0 where
   pub counted : count ≡ length points
   pub written : exit ≡ lent points entry

@@ -11,12 +11,9 @@ use Rattle.refusals.specs.Said.{answered, refusing, said}
 use Rattle.refusals.proofs.Apart.{refused_apart}
 use Rattle.refusals.proofs.TriedLaws.{tried_map, tried_append, no_result}
 use Rattle.refusals.specs.declared.Refusal.{Refusal}
-use Rattle.refusals.specs.declared.Refusal.TheVariants as Refusal
 use Rattle.refusals.specs.declared.Answer.{Answer}
-use Rattle.refusals.specs.declared.Answer.TheVariants as Answer
 use Rattle.charts.specs.declared.InRange.{InRange}
 use Rattle.charts.specs.declared.Settings.{Settings}
-use Rattle.charts.specs.declared.Settings.TheVariants as Settings
 use Rattle.charts.specs.Settings.{setting_tests, tested_as, after_settings, Named, target_wrong, sigma_wrong, weight_wrong, bound_wrong, none_wrong}
 use Rattle.charts.specs.Answers.{size_tests, chart_answer, admitted_as, admitted_after}
 use Rattle.charts.specs.Outcomes.{analyzed, provided, signalled}

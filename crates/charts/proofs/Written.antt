@@ -8,7 +8,6 @@ use lib.Ieee.{Float, nan}
 use Rattle.refusals.specs.Tried.{passed, count_of}
 use Rattle.refusals.specs.declared.Refusal.{Refusal}
 use Rattle.refusals.specs.declared.Answer.{Answer}
-use Rattle.refusals.specs.declared.Answer.TheVariants as Answer
 use Rattle.charts.specs.Answers.{admitted_as}
 use Rattle.charts.specs.Outcomes.{analyzed}
 use Rattle.charts.specs.Runs.{state_at, record_at, records, lent}

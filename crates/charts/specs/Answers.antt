@@ -3,9 +3,7 @@ use Rattle.std.specs.Prelude.{ℕ, Bool, List, [], ◌∷◌, ◌++◌, ltb}
 use Rattle.refusals.specs.Limits.{max_readings}
 use Rattle.refusals.specs.Tried.{counted}
 use Rattle.refusals.specs.declared.Refusal.{Refusal}
-use Rattle.refusals.specs.declared.Refusal.TheVariants as Refusal
 use Rattle.refusals.specs.declared.Answer.{Answer}
-use Rattle.refusals.specs.declared.Answer.TheVariants as Answer
 use Rattle.charts.specs.declared.Settings.{Settings}
 use Rattle.charts.specs.Settings.{after_settings}
 

@@ -2,7 +2,6 @@
 use Rattle.std.specs.Prelude.{[], ◌∷◌}
 use Rattle.refusals.specs.Said.{Said, answered, refusing}
 use Rattle.charts.specs.declared.Heard.{Heard}
-use Rattle.charts.specs.declared.Heard.TheVariants as Heard
 
 -- the reading, nothing where the level is not heard, or the refusal's number and values
 abbrev pub heard_as : Heard → Said

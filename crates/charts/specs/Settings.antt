@@ -3,10 +3,8 @@ use Rattle.std.specs.Prelude.{◌<◌, ◌≡◌, Bool, true, false, not, List, 
 use Rattle.refusals.specs.Stated.{stated}
 use Rattle.refusals.specs.Tried.{tried}
 use Rattle.refusals.specs.declared.Refusal.{Refusal}
-use Rattle.refusals.specs.declared.Refusal.TheVariants as Refusal
 use Rattle.charts.specs.declared.InRange.{InRange}
 use Rattle.charts.specs.declared.Settings.{Settings}
-use Rattle.charts.specs.declared.Settings.TheVariants as Settings
 
 -- 15 to 18, of settings of which `s` says whether each is in range
 abbrev pub setting_tests : InRange → List (Bool × Refusal)

@@ -7,10 +7,12 @@
 // is `specs/Outcomes`.
 //
 // `specs/Runs` says what a run over a series is, whatever its settings, states and records are, and
-// `proofs/Walk` walks the loop that fills a lent slice of such records, for any chart whose own proof
-// cites it. What such a loop leaves is the records of the run at the front of the slice, with what the
-// slice held behind them (`proofs/Runs`), in one list or in an array for each field (`proofs/Columns`);
-// an array of a function's own may be lent to it (`proofs/ByValue`).
+// `proofs/Loops` what is known after each reading in the loop that fills a lent slice of such records,
+// for any chart whose own invariant cites it. What such a loop leaves is the records of the run at the
+// front of the slice, with what the slice held behind them (`proofs/Runs`), in one list or in an array
+// for each field (`proofs/Columns`).
+#![tactic(auto)]
+
 ghost use Rattle.std.specs.Prelude.{◌≡◌};
 ghost use Rattle.refusals.specs.Tried.{count_of};
 ghost use Rattle.charts.specs.Settings.{setting_tests, tested_as};
@@ -21,16 +23,16 @@ ghost use Rattle.charts.specs.Sides.{side_of, signals, side_number};
 use refusals::{Answer, MAX_READINGS, Refusal};
 
 // The index of an observation in its series, from 0.
-#[derive(Drop)]
+#[derive(Clone, Copy)]
 pub struct Observation(pub usize);
 
 // The place of an observation on its chart, from 1; 0 where nothing was measured yet and the chart counts
 // finite readings only.
-#[derive(Drop)]
+#[derive(Clone, Copy)]
 pub struct Place(pub usize);
 
 // On which side of a chart a reading signals.
-#[derive(Drop)]
+#[derive(Clone, Copy)]
 pub enum Side {
     None,
     Above,
@@ -40,7 +42,7 @@ pub enum Side {
 
 // Which of a chart's two sums is asked for: that of what lies above the target, or that of what lies
 // below it.
-#[derive(Drop)]
+#[derive(Clone, Copy)]
 pub enum Sum {
     Upper,
     Lower,
@@ -48,7 +50,7 @@ pub enum Sum {
 
 // The answer of a run length: the reading, from 1, at which the asked sum was first above its bound;
 // that it was not; or a refusal.
-#[derive(Drop)]
+#[derive(Clone, Copy)]
 pub enum Heard {
     At(usize),
     NotHeard,
@@ -57,7 +59,7 @@ pub enum Heard {
 
 // Whether each setting of a chart is in range: its `target`, its `sigma`, its `weight` (k or lambda) and
 // its `bound` (h or L).
-#[derive(Drop)]
+#[derive(Clone, Copy)]
 pub struct InRange {
     pub target: bool,
     pub sigma: bool,
@@ -66,13 +68,14 @@ pub struct InRange {
 }
 
 // That a chart's settings are in range, or the refusal of the first that is not.
-#[derive(Drop)]
+#[derive(Clone, Copy)]
 pub enum Settings {
     Accepted,
     Refused(Refusal),
 }
 
 // The side of a reading that signals `above` and `below`, or on one of them, or not at all.
+#[tactic(auto, unfolding(crate::specs::Sides::side_of))]
 pub fn side_of(above: bool, below: bool) -> Side
     ensures { result ≡ side_of above below }
 {

@@ -13,7 +13,6 @@ use Rattle.floats.specs.Finite.{finite}
 use Rattle.refusals.specs.Limits.{max_readings}
 use Rattle.refusals.proofs.TriedLaws.{answered_passed, passed_first, passed_right}
 use Rattle.refusals.specs.declared.Refusal.{Refusal}
-use Rattle.refusals.specs.declared.Refusal.TheVariants as Refusal
 use Rattle.charts.specs.Runs.{state_at, lent}
 use Rattle.charts.specs.Answers.{chart_answer}
 use Rattle.charts.specs.Outcomes.{provided}
@@ -22,7 +21,6 @@ use Rattle.charts.proofs.Points.{among_front, signal_among}
 use Rattle.charts.specs.Sides.{signals, faces}
 use Rattle.charts.proofs.SideLaws.{faces_signals}
 use Rattle.refusals.specs.declared.Answer.{Answer}
-use Rattle.refusals.specs.declared.Answer.TheVariants as Answer
 use Rattle.charts.proofs.Answers.{count_accepted}
 use Rattle.cusum.specs.declared.Cusum.{Cusum}
 use Rattle.cusum.specs.declared.CusumResult.{CusumResult}

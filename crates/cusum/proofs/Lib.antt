@@ -1,4 +1,3 @@
-pub mod Types
 pub mod SettingLaws
 pub mod Allowance
 pub mod Hearing

@@ -8,7 +8,7 @@ use mathlib.Core.Bool.{Bool, true, false, ◌&&◌, cond}
 use mathlib.Core.List.{List, [], ◌∷◌}
 use lib.Dec.{T}
 use lib.ListN.{length, get_or}
-use lib.Ieee.{Float, nan, binary64, neg, sub, lt, le}
+use lib.Ieee.{Float, nan, binary64, neg, sub, le}
 use lib.Ieee.Bits.{is_true}
 use lib.Ieee.Fits.{and_l, and_r}
 use lib.Ieee.Positive.{positive}
@@ -22,7 +22,6 @@ use Rattle.charts.specs.Runs as Runs
 use Rattle.charts.specs.Spans.{count_in}
 use Rattle.charts.specs.declared.Observation.{Observation}
 use Rattle.refusals.specs.declared.Answer.{Answer}
-use Rattle.refusals.specs.declared.Answer.TheVariants as Answer
 use Rattle.charts.specs.Sides.{is_above, is_below, faces}
 use Rattle.charts.proofs.SideLaws.{side_above, side_below}
 use Rattle.charts.proofs.Written.{analyzed_writes}

@@ -10,9 +10,7 @@ use lib.Ieee.{Float}
 use Rattle.floats.specs.Finite.{finite}
 use Rattle.refusals.specs.Tried.{passed}
 use Rattle.refusals.specs.declared.Refusal.{Refusal}
-use Rattle.refusals.specs.declared.Refusal.TheVariants as Refusal
 use Rattle.refusals.specs.declared.Answer.{Answer}
-use Rattle.refusals.specs.declared.Answer.TheVariants as Answer
 use Rattle.charts.specs.Settings.{Named}
 use Rattle.charts.proofs.SettingLaws.{settings_pass, refusal_names, analyzed_refused, signalled_refused}
 use Rattle.cusum.specs.declared.Cusum.{Cusum}

@@ -8,7 +8,6 @@ use lib.Ieee.{Float, nan}
 use Rattle.floats.specs.Numbers.{◌<ᶠ◌}
 use Rattle.floats.specs.Finite.{finite}
 use Rattle.refusals.specs.declared.Answer.{Answer}
-use Rattle.refusals.specs.declared.Answer.TheVariants as Answer
 use Rattle.charts.specs.Sides.{side_of, signals}
 use Rattle.charts.specs.declared.Observation.{Observation}
 use Rattle.charts.specs.declared.Side.TheVariants as Sided

@@ -5,6 +5,8 @@
 // Every call ends with an answer or a refusal, and asks nothing of its caller: settings are checked
 // when they are used. `specs/Chart` has the recurrences that the records equal, and
 // `proofs/Promise` the promise that a lasting shift is signalled on its side.
+#![tactic(auto)]
+
 mod listen;
 mod step;
 
@@ -19,7 +21,7 @@ use refusals::{Answer, Refusal};
 pub use step::{following, judge, start};
 use step::{next, tested};
 
-#[derive(Drop)]
+#[derive(Clone, Copy)]
 pub struct Cusum {
     pub target: f64,
     pub sigma: f64,
@@ -28,7 +30,7 @@ pub struct Cusum {
 }
 
 // The record of the observation `index`: both sums after it, and the side on which they are above h.
-#[derive(Drop)]
+#[derive(Clone, Copy)]
 pub struct CusumResult {
     pub s_upper: f64,
     pub s_lower: f64,
@@ -37,7 +39,7 @@ pub struct CusumResult {
 }
 
 // What goes from reading to reading: nothing beside the last record.
-#[derive(Drop)]
+#[derive(Clone, Copy)]
 pub struct State {
     pub shown: CusumResult,
 }

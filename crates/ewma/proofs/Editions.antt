@@ -11,7 +11,6 @@ use Rattle.floats.specs.Numbers.{◌+ᶠ◌, ◌-ᶠ◌}
 use Rattle.floats.specs.Finite.{finite}
 use Rattle.refusals.specs.Tried.{count_of}
 use Rattle.refusals.specs.declared.Answer.{Answer}
-use Rattle.refusals.specs.declared.Answer.TheVariants as Answer
 use Rattle.charts.specs.Answers.{admitted_as}
 use Rattle.charts.specs.Outcomes as Outcomes
 use Rattle.charts.specs.Runs.{state_at, lent}

@@ -1,4 +1,3 @@
-pub mod Types
 pub mod SettingLaws
 pub mod Editions
 pub mod Places

@@ -9,7 +9,6 @@ use lib.Ieee.{Float}
 use Rattle.refusals.specs.Tried.{passed}
 use Rattle.refusals.specs.declared.Refusal.{Refusal}
 use Rattle.refusals.specs.declared.Answer.{Answer}
-use Rattle.refusals.specs.declared.Answer.TheVariants as Answer
 use Rattle.charts.specs.Settings.{Named}
 use Rattle.charts.proofs.SettingLaws.{settings_pass, analyzed_refused, signalled_refused}
 use Rattle.ewma.specs.declared.Ewma.{Ewma}

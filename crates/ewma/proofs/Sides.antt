@@ -15,7 +15,6 @@ use Rattle.floats.proofs.Order.FromZero.{FromZero, positive_product, product_fro
 use Rattle.elementary.specs.Root.{sqrt}
 use Rattle.elementary.proofs.RootSign.{root_from_zero}
 use Rattle.refusals.specs.declared.Answer.{Answer}
-use Rattle.refusals.specs.declared.Answer.TheVariants as Answer
 use Rattle.charts.specs.Sides.{side_of, signals, is_above, is_below}
 use Rattle.charts.specs.declared.Observation.{Observation}
 use Rattle.charts.specs.declared.Place.{Place}

@@ -7,6 +7,8 @@
 // when they are used. `specs/Chart` has the recurrences that the records equal, `proofs/Editions` what
 // holds of both editions and of each alone, and `proofs/Sides` what is known of the records' sides: that
 // of an accepted chart is never both.
+#![tactic(auto)]
+
 mod resting;
 mod step;
 
@@ -19,13 +21,13 @@ pub use step::{following, judge, start};
 
 // Which place on the chart a reading has: in the first edition, the Rust's, its index and 1, so that a
 // gap uses up a place; in the second the number of finite readings up to and with it.
-#[derive(Drop)]
+#[derive(Clone, Copy)]
 pub enum Edition {
     First,
     Second,
 }
 
-#[derive(Drop)]
+#[derive(Clone, Copy)]
 pub struct Ewma {
     pub target: f64,
     pub sigma: f64,
@@ -36,7 +38,7 @@ pub struct Ewma {
 
 // The record of the observation `index`: the statistic `ewma` after it, the limits `ucl` and `lcl` at
 // its place, and the side on which the statistic is outside them.
-#[derive(Drop)]
+#[derive(Clone, Copy)]
 pub struct EwmaResult {
     pub ewma: f64,
     pub ucl: f64,
@@ -46,7 +48,7 @@ pub struct EwmaResult {
 }
 
 // Where the limits settle: at the place `from` and later ones they lie `half_width` from the target.
-#[derive(Drop)]
+#[derive(Clone, Copy)]
 pub struct Settled {
     pub from: usize,
     pub half_width: f64,
@@ -54,7 +56,7 @@ pub struct Settled {
 
 // Where a chart stands: at the place `place`, the last reading's, its limits lie `half_width` from the
 // target; and `settled` says where they settle.
-#[derive(Drop)]
+#[derive(Clone, Copy)]
 pub struct Limits {
     pub place: Place,
     pub half_width: f64,
@@ -62,7 +64,7 @@ pub struct Limits {
 }
 
 // What goes from reading to reading: the last record, and where the chart stands.
-#[derive(Drop)]
+#[derive(Clone, Copy)]
 pub struct State {
     pub shown: EwmaResult,
     pub limits: Limits,

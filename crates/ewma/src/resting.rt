@@ -40,6 +40,7 @@ pub(crate) fn settled_from(decay: f64) -> usize
 // How far the limits lie from the target at `place`, where they have not settled: as far as at the last
 // reading, of which `limits` speaks, if that had the same place, as at a gap of the second edition; and
 // else by a power. Cost: one turn for each binary digit of `place`.
+#[tactic(auto, unfolding(crate::specs::Settled::moving_width))]
 fn moving_width(chart: Ewma, limits: Limits, place: Place) -> f64
     requires { place.0 ≤ 2 ^ 62 }
     ensures { result ≡ moving_width chart limits place }
