@@ -5,7 +5,7 @@ ghost use Rattle.cuts_input.specs.Inner.Held.{Found};
 use crate::number::number;
 
 // A position in the input: the index `at` of its next byte.
-#[derive(Drop)]
+#[derive(Clone, Copy)]
 pub struct Cursor {
     pub at: usize,
 }

@@ -5,6 +5,8 @@
 // the form. `specs/Form` says which bytes ask for which search, `specs/Parsed` how that is answered;
 // that one outcome alone meets it is proved (`proofs/ParsedLaws`). `specs/Inner/Held` is for the
 // private functions.
+#![tactic(auto)]
+
 mod channels;
 mod cursor;
 mod input;
@@ -24,7 +26,7 @@ const LENGTHS: usize = 2746;
 
 // What an input asks for: a search of `readings` readings in `channels` channels, by its settings, or
 // `Wrong` where the input is not of the form.
-#[derive(Drop)]
+#[derive(Clone, Copy)]
 pub enum Request {
     Search {
         cost: CostFunction,

@@ -7,25 +7,25 @@ use crate::number::number;
 use costs::{CostFunction, Penalty};
 
 // What a field of the settings sets, and the cursor past it; or `Wrong`.
-#[derive(Drop)]
+#[derive(Clone, Copy)]
 pub enum CostField {
     Set(CostFunction, Cursor),
     Wrong,
 }
 
-#[derive(Drop)]
+#[derive(Clone, Copy)]
 pub enum PenaltyField {
     Set(Penalty, Cursor),
     Wrong,
 }
 
-#[derive(Drop)]
+#[derive(Clone, Copy)]
 pub enum LeastField {
     Set(usize, Cursor),
     Wrong,
 }
 
-#[derive(Drop)]
+#[derive(Clone, Copy)]
 pub enum Settings {
     Set {
         cost: CostFunction,

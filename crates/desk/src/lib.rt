@@ -4,6 +4,8 @@
 // None asks anything of its caller. A contract names the definitions that what is returned, every
 // single result and every lent slice afterwards are equal to, to the bit; NaN counts as one value.
 // The functions only pass on: what they promise is proved in the crates that they call.
+#![tactic(auto)]
+
 ghost use Rattle.std.specs.Prelude.{◌≡◌, true, false, length};
 ghost use Rattle.elementary.specs.Root.{sqrt};
 ghost use Rattle.elementary.specs.Power.{powi};

@@ -1,8 +1,16 @@
-// Reading a case from standard input. Numbers are written with their highest byte first.
-ghost use Rattle.std.specs.Prelude.{◌+◌, ◌≤◌};
+// Reading a case from standard input. Numbers are written with their highest byte first. A read that
+// fails is an error, and never the end of the input.
+ghost use Rattle.std.specs.Prelude.{◌+◌, ◌≤◌, length, IfOk};
 ghost use Rattle.replay_common.specs.Front.{Front};
 
-use libc::STDIN_FILENO;
+use std::io;
+use std::io::{BufReader, Read, Stdin};
+
+// What the cases are read from: standard input, in blocks.
+#[derive(Drop)]
+pub struct Source {
+    reader: BufReader<Stdin>,
+}
 
 // Bytes of the input, at the front of `bytes`.
 #[derive(Drop)]
@@ -14,7 +22,7 @@ pub struct Block {
 }
 
 // A number of the input, `value`, and whether the input had all of its bytes.
-#[derive(Drop)]
+#[derive(Clone, Copy)]
 pub struct Stored {
     pub value: u64,
     pub whole: bool,
@@ -55,70 +63,94 @@ pub fn float(bytes: &[u8; 33], start: usize) -> f64
     floats::from_bits(number(bytes, start, 8))
 }
 
+impl Source {
+    // Standard input, of which nothing was read yet.
+    pub fn new(rt: &HostRuntime) -> io::Result<Source> {
+        let reader = BufReader::new(rt.alloc(), rt.stdin())?;
+        Ok(Source { reader })
+    }
+
+    // Reads until `area` is full or the input ends, and says how many bytes it put at the front of
+    // `area`. Cost: one turn for each read.
+    pub fn read_full(&mut self, area: &mut [u8]) -> io::Result<usize>
+        ensures { IfOk result (λ count. count ≤ length area.new) }
+    {
+        let mut done = 0;
+        while done < area.len() {
+            let got = self.reader.read(&mut area[done..])?;
+            if got == 0 {
+                return Ok(done);
+            }
+            done += got;
+        }
+        Ok(done)
+    }
+}
+
 // The next `width` bytes of the input.
-pub fn next_block(width: usize) -> Block
+pub fn next_block(source: &mut Source, width: usize) -> io::Result<Block>
     requires { width ≤ 33 }
 {
     let mut bytes = [0u8; 33];
-    let count = io::read_full(STDIN_FILENO, &mut bytes[..width]);
-    Block {
+    let count = source.read_full(&mut bytes[..width])?;
+    Ok(Block {
         bytes,
         whole: count == width,
         begun: count != 0,
-    }
+    })
 }
 
 // The next number of the input, of `width` bytes.
-pub fn next_number(width: usize) -> Stored
+pub fn next_number(source: &mut Source, width: usize) -> io::Result<Stored>
     requires { width ≤ 33 }
 {
-    let block = next_block(width);
+    let block = next_block(source, width)?;
     let bytes = block.bytes;
-    Stored {
+    Ok(Stored {
         value: number(&bytes, 0, width),
         whole: block.whole,
-    }
+    })
 }
 
 // The next `count` readings of the input, as a series without a refusal. Cost: one turn for each.
-pub fn next_readings(count: usize) -> Series
+pub fn next_readings(source: &mut Source, count: usize) -> io::Result<Series>
     requires { count ≤ 4096 }
-    ensures { Front result.count result.readings }
+    ensures { IfOk result (λ series. Front series.count series.readings) }
 {
     let mut readings = [0.0; 4096];
     let mut whole = true;
     let mut i = 0;
     while i < count {
-        let next = next_number(8);
+        let next = next_number(source, 8)?;
         readings[i] = floats::from_bits(next.value);
         whole = whole & next.whole;
         i += 1;
     }
-    Series {
+    Ok(Series {
         readings,
         count,
         refusal: 0,
         whole,
-    }
+    })
 }
 
 // The next series: the number of its readings, each of them, and the number of the refusal, or 0.
-pub fn next_series() -> Series
-    ensures { Front result.count result.readings }
+pub fn next_series(source: &mut Source) -> io::Result<Series>
+    ensures { IfOk result (λ series. Front series.count series.readings) }
 {
-    let length = next_number(2);
+    let length = next_number(source, 2)?;
     let count = length.value as usize;
     if count <= 4096 {
-        let mut series = next_readings(count);
-        let last = next_number(1);
+        let mut series = next_readings(source, count)?;
+        let last = next_number(source, 1)?;
         series.refusal = last.value;
         series.whole = length.whole & series.whole & last.whole;
-        return series;
+        return Ok(series);
     }
-    Series {
+    Ok(Series {
         readings: [0.0; 4096],
         count: 0,
         refusal: 0,
         whole: false,
-    }
+    })
 }

@@ -5,6 +5,8 @@
 // made of. Nothing here trusts them: a case that ends too early, or has a number that is out of range,
 // stops the replay and is reported. Kinds and values are printed by their numbers, which take less to
 // prove than names do: each program says in its first lines what they mean.
+#![tactic(auto)]
+
 mod answers;
 mod input;
 mod progress;
@@ -13,6 +15,7 @@ pub use answers::{
     KEPT, LIMIT, RECORD, SERIES, UNUSED, compare_point, compare_points, match_answers, next_count,
 };
 pub use input::{
-    Block, Series, Stored, float, next_block, next_number, next_readings, next_series, number,
+    Block, Series, Source, Stored, float, next_block, next_number, next_readings, next_series,
+    number,
 };
 pub use progress::Progress;

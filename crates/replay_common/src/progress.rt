@@ -2,11 +2,14 @@
 ghost use Rattle.std.specs.Prelude.{◌≤◌};
 
 use crate::input::number;
-use libc::STDOUT_FILENO;
+use std::io;
+use std::io::Stdout;
 use std::num::wrapping_add_u64;
 
-#[derive(Drop)]
+#[derive(Clone, Copy)]
 pub struct Progress {
+    // Where what was found is printed.
+    pub out: Stdout,
     // How many things were compared of each kind, and how many of them differ. Each program says in its
     // first lines what its kinds are.
     pub cases: [u64; Progress::KINDS],
@@ -21,48 +24,38 @@ pub struct Progress {
     pub more: bool,
 }
 
-// Prints `label` and the number `count`.
-fn print_count(label: &[u8], count: u64) {
-    io::write_all(STDOUT_FILENO, label);
-    io::print_decimal(STDOUT_FILENO, count);
-}
-
-// Prints `label` and the bit pattern `pattern` in hexadecimal digits.
-fn print_pattern(label: &[u8], pattern: u64) {
-    io::write_all(STDOUT_FILENO, label);
-    io::print_hex(STDOUT_FILENO, pattern, 16);
-}
-
 // Prints a line for a difference in the case `begun`: the value with the number `value`, at the index
-// `place`, is `got` and not `expected`.
-fn show(begun: u64, value: u64, place: usize, expected: u64, got: u64) {
-    print_count(b"case ", begun);
-    print_count(b" value ", value);
-    print_count(b" place ", place as u64);
-    print_pattern(b" expected ", expected);
-    print_pattern(b" got ", got);
-    io::write_all(STDOUT_FILENO, b"\n");
+// `place`, is `got` and not `expected`, as bit patterns in hexadecimal digits.
+fn show(
+    out: &Stdout,
+    begun: u64,
+    value: u64,
+    place: usize,
+    expected: u64,
+    got: u64,
+) -> io::Result<()> {
+    println!(out;
+        "case {begun} value {value} place {place} expected {expected:016x} got {got:016x}"
+    )
 }
 
 // Prints a line for the kind `kind`, of which there are `cases` and `differ` of those differ; none where
 // there are no cases.
-fn report_kind(kind: usize, cases: u64, differ: u64) {
+fn report_kind(out: &Stdout, kind: usize, cases: u64, differ: u64) -> io::Result<()> {
     if cases == 0 {
-        return;
+        return Ok(());
     }
-    print_count(b"kind ", kind as u64);
-    print_count(b": ", cases);
-    print_count(b", ", differ);
-    io::write_all(STDOUT_FILENO, b" differ\n");
+    println!(out; "kind {kind}: {cases}, {differ} differ")
 }
 
 impl Progress {
     // How many kinds there may be.
     const KINDS: usize = 24;
 
-    // No case so far, and 20 lines for differences.
-    pub fn new() -> Progress {
+    // No case so far, and 20 lines for differences, which go to `out`.
+    pub fn new(out: Stdout) -> Progress {
         Progress {
+            out,
             cases: [0; Progress::KINDS],
             differ: [0; Progress::KINDS],
             begun: 0,
@@ -85,25 +78,33 @@ impl Progress {
     }
 
     // The progress at the end, where the case is not whole or of no known form, which is printed.
-    pub fn stopped(self) -> Progress {
-        print_count(b"too short, or of no known form: case ", self.begun);
-        io::write_all(STDOUT_FILENO, b"\n");
-        self.ended()
+    pub fn stopped(self) -> io::Result<Progress> {
+        let out = self.out;
+        let begun = self.begun;
+        println!(out; "too short, or of no known form: case {begun}")?;
+        Ok(self.ended())
     }
 
     // Compares `got`, which a call gave, with `expected`, which is stored, and shows a difference while
     // lines are left. `value` is the number of what was compared, and `place` its index.
-    pub fn matched(mut self, value: u64, place: usize, expected: u64, got: u64) -> Progress {
+    pub fn matched(
+        mut self,
+        value: u64,
+        place: usize,
+        expected: u64,
+        got: u64,
+    ) -> io::Result<Progress> {
         if expected == got {
-            return self;
+            return Ok(self);
         }
         self.unlike = 1;
         if self.lines == 0 {
-            return self;
+            return Ok(self);
         }
         self.lines = self.lines - 1;
-        show(self.begun, value, place, expected, got);
-        self
+        let out = self.out;
+        show(&out, self.begun, value, place, expected, got)?;
+        Ok(self)
     }
 
     // The same of the float `got`, the value `value` at the index `place`, whose bit pattern is stored
@@ -115,7 +116,7 @@ impl Progress {
         bytes: &[u8; 33],
         start: usize,
         got: f64,
-    ) -> Progress
+    ) -> io::Result<Progress>
         requires { start ≤ 25 }
     {
         self.matched(value, place, number(bytes, start, 8), floats::to_bits(got))
@@ -139,11 +140,13 @@ impl Progress {
 
     // Prints how many there are of each kind of which there is one, and how many differ. Cost: one turn
     // for each kind.
-    pub fn report(self) {
+    pub fn report(self) -> io::Result<()> {
+        let out = self.out;
         let mut kind = 0;
         while kind < Progress::KINDS {
-            report_kind(kind, self.cases[kind], self.differ[kind]);
+            report_kind(&out, kind, self.cases[kind], self.differ[kind])?;
             kind += 1;
         }
+        Ok(())
     }
 }

@@ -2,11 +2,12 @@
 use crate::lend::lend;
 use charts::{Observation, Side};
 use cusum::{Cusum, CusumResult};
-use replay_common::{KEPT, Progress, RECORD, number};
+use replay_common::{KEPT, Progress, RECORD, Source, number};
+use std::io;
 
 // A record as numbers, its values by their bit patterns. The `mark` is the index, and 32 bits higher the
 // number of the side.
-#[derive(Drop)]
+#[derive(Clone, Copy)]
 struct Fields {
     s_upper: u64,
     s_lower: u64,
@@ -35,23 +36,39 @@ fn fields_of(record: CusumResult) -> Fields {
 }
 
 // Compares the fields `got` of the record `i` with the `expected` ones.
-fn match_fields(progress: Progress, i: usize, expected: Fields, got: Fields) -> Progress {
+fn match_fields(
+    progress: Progress,
+    i: usize,
+    expected: Fields,
+    got: Fields,
+) -> io::Result<Progress> {
     progress
-        .matched(0, i, expected.s_upper, got.s_upper)
-        .matched(1, i, expected.s_lower, got.s_lower)
+        .matched(0, i, expected.s_upper, got.s_upper)?
+        .matched(1, i, expected.s_lower, got.s_lower)?
         .matched(2, i, expected.mark, got.mark)
 }
 
 // Compares the record `got`, which the lent ones have at `place`, with what was there before the call.
-pub(crate) fn match_unused(progress: Progress, place: usize, got: CusumResult) -> Progress {
-    match_fields(progress, place, fields_of(unused()), fields_of(got)).counted(KEPT)
+pub(crate) fn match_unused(
+    progress: Progress,
+    place: usize,
+    got: CusumResult,
+) -> io::Result<Progress> {
+    let matched = match_fields(progress, place, fields_of(unused()), fields_of(got))?;
+    Ok(matched.counted(KEPT))
 }
 
 // Compares the record `got`, which the lent ones have at `place`, with the one that the input has next
 // if it is `stored`, and otherwise with what was there before the call.
-fn compare_record(progress: Progress, place: usize, got: CusumResult, stored: bool) -> Progress {
+fn compare_record(
+    progress: Progress,
+    source: &mut Source,
+    place: usize,
+    got: CusumResult,
+    stored: bool,
+) -> io::Result<Progress> {
     if stored {
-        let block = replay_common::next_block(19);
+        let block = replay_common::next_block(source, 19)?;
         if block.whole {
             let bytes = block.bytes;
             let expected = Fields {
@@ -59,7 +76,8 @@ fn compare_record(progress: Progress, place: usize, got: CusumResult, stored: bo
                 s_lower: number(&bytes, 8, 8),
                 mark: number(&bytes, 16, 1) << 32 | number(&bytes, 17, 2),
             };
-            return match_fields(progress, place, expected, fields_of(got)).counted(RECORD);
+            let matched = match_fields(progress, place, expected, fields_of(got))?;
+            return Ok(matched.counted(RECORD));
         }
         return progress.stopped();
     }
@@ -70,27 +88,29 @@ fn compare_record(progress: Progress, place: usize, got: CusumResult, stored: bo
 // each lent record.
 fn compare_records(
     mut progress: Progress,
+    source: &mut Source,
     records: [CusumResult; 4097],
     stored: usize,
-) -> Progress {
+) -> io::Result<Progress> {
     let mut i = 0;
     while i < 4097 {
-        progress = compare_record(progress, i, records[i], i < stored);
+        progress = compare_record(progress, source, i, records[i], i < stored)?;
         i += 1;
     }
-    progress
+    Ok(progress)
 }
 
 // Compares what `chart` makes of `data` with the refusal of the number `refusal`, or where that is 0
 // with what the input has next, and counts the answers as one of the kind `kind`.
 pub(crate) fn replay_answers(
     progress: Progress,
+    source: &mut Source,
     chart: Cusum,
     data: &[f64],
     refusal: u64,
     kind: usize,
-) -> Progress {
-    let next = replay_common::next_count(refusal);
+) -> io::Result<Progress> {
+    let next = replay_common::next_count(source, refusal)?;
     if !next.whole {
         return progress.stopped();
     }
@@ -109,7 +129,7 @@ pub(crate) fn replay_answers(
         signalled,
         records_stored,
         charted,
-    );
-    let compared = replay_common::compare_points(answered, &points, points_stored);
-    compare_records(compared, records, records_stored)
+    )?;
+    let compared = replay_common::compare_points(answered, source, &points, points_stored)?;
+    compare_records(compared, source, records, records_stored)
 }

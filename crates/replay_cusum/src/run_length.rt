@@ -2,7 +2,8 @@
 use charts::{Heard, Sum};
 use cusum::Cusum;
 use refusals::Refusal;
-use replay_common::{Progress, float, number};
+use replay_common::{Progress, Source, float, number};
+use std::io;
 
 // The kind of a run length.
 const RUN_LENGTH: usize = 5;
@@ -23,15 +24,19 @@ fn heard(answer: Heard) -> u64 {
 }
 
 // Replays the run length that the input has next, by the sum `asked` of `chart`.
-pub(crate) fn replay_run_length(progress: Progress, chart: Cusum, asked: Sum) -> Progress {
-    let block = replay_common::next_block(11);
+pub(crate) fn replay_run_length(
+    progress: Progress,
+    source: &mut Source,
+    chart: Cusum,
+    asked: Sum,
+) -> io::Result<Progress> {
+    let block = replay_common::next_block(source, 11)?;
     let bytes = block.bytes;
     if !block.whole {
         return progress.stopped();
     }
     let answer = chart.run_length(float(&bytes, 0), asked);
     let expected = number(&bytes, 8, 1) << 32 | number(&bytes, 9, 2);
-    progress
-        .matched(9, 0, expected, heard(answer))
-        .counted(RUN_LENGTH)
+    let matched = progress.matched(9, 0, expected, heard(answer))?;
+    Ok(matched.counted(RUN_LENGTH))
 }

@@ -7,10 +7,14 @@
 //
 // `tests/vectors/run` makes standard input; the first lines of `tests/vectors/fields.rs` say what
 // a case is made of.
+#![tactic(auto)]
+
 mod stored;
 
 use cuts_answer::Printed;
-use replay_common::{Progress, next_number};
+use replay_common::{Progress, Source, next_number};
+use std::io;
+use std::io::Stdout;
 use stored::{OUTPUT, kind_of, next_bytes};
 
 // The letters of the records of standard input: a case, and the end.
@@ -37,21 +41,21 @@ fn compare(
     expected: &[u8; OUTPUT],
     length: usize,
     printed: Printed,
-) -> Progress {
+) -> io::Result<Progress> {
     let got = printed.bytes;
     let at = first_unlike(expected, &got);
-    progress
-        .matched(0, 0, OUTPUT as u64, at as u64)
-        .matched(1, 0, length as u64, printed.length as u64)
-        .counted(kind_of(expected))
+    let matched = progress
+        .matched(0, 0, OUTPUT as u64, at as u64)?
+        .matched(1, 0, length as u64, printed.length as u64)?;
+    Ok(matched.counted(kind_of(expected)))
 }
 
 // Replays the next case: an input, and the output that it is to have.
-fn replay_case(progress: Progress) -> Progress {
+fn replay_case(progress: Progress, source: &mut Source) -> io::Result<Progress> {
     let mut input = [0; OUTPUT];
     let mut expected = [0; OUTPUT];
-    let asked = next_bytes(&mut input);
-    let stored = next_bytes(&mut expected);
+    let asked = next_bytes(source, &mut input)?;
+    let stored = next_bytes(source, &mut expected)?;
     if !(asked.whole & stored.whole) {
         return progress.stopped();
     }
@@ -60,33 +64,34 @@ fn replay_case(progress: Progress) -> Progress {
     compare(progress, &expected, stored.length, printed)
 }
 
-// Replays what standard input has next: a case, or the end.
-fn replay_record(progress: Progress) -> Progress {
-    let letter = next_number(1);
+// Replays what `source` has next: a case, or the end.
+fn replay_record(progress: Progress, source: &mut Source) -> io::Result<Progress> {
+    let letter = next_number(source, 1)?;
     if letter.value == CASE {
-        return replay_case(progress.begun());
+        return replay_case(progress.begun(), source);
     }
     if letter.value == END {
-        return progress.ended();
+        return Ok(progress.ended());
     }
     progress.begun().stopped()
 }
 
-// Replays the cases of standard input up to the end. The count ends the loop, since nothing says that
-// the input does.
-fn replay_all() -> Progress {
-    let mut progress = Progress::new();
+// Replays the cases of `source` up to the end. The count ends the loop, since nothing says that the
+// input does.
+fn replay_all(out: Stdout, source: &mut Source) -> io::Result<Progress> {
+    let mut progress = Progress::new(out);
     let mut turn = 0u64;
     while turn < u64::MAX {
-        progress = replay_record(progress);
+        progress = replay_record(progress, source)?;
         if !progress.more {
-            return progress;
+            return Ok(progress);
         }
         turn += 1;
     }
-    progress
+    Ok(progress)
 }
 
-fn main() {
-    replay_all().report();
+fn main(rt: HostRuntime) -> io::Result<()> {
+    let mut source = Source::new(&rt)?;
+    replay_all(rt.stdout(), &mut source)?.report()
 }

@@ -1,14 +1,14 @@
 // Reading what a case is made of, bytes with their number in front; and the kind of an output.
-ghost use Rattle.std.specs.Prelude.{◌≤◌, length};
+ghost use Rattle.std.specs.Prelude.{◌≤◌, length, IfOk};
 
-use libc::STDIN_FILENO;
-use replay_common::{next_block, number};
+use replay_common::{Source, next_block, number};
+use std::io;
 
 // How many bytes an output may have. No stored input has more.
 pub(crate) const OUTPUT: usize = 10841;
 
 // How many bytes were read to the front of an area, and whether the input had all of them.
-#[derive(Drop)]
+#[derive(Clone, Copy)]
 pub(crate) struct Stored {
     pub length: usize,
     pub whole: bool,
@@ -16,23 +16,23 @@ pub(crate) struct Stored {
 
 // Reads the next bytes of the input, their number in 2 bytes and each of them, to the front of `area`,
 // and says how many they are; none where `area` is too short.
-pub(crate) fn next_bytes(area: &mut [u8]) -> Stored
-    ensures { result.length ≤ length area.old }
+pub(crate) fn next_bytes(source: &mut Source, area: &mut [u8]) -> io::Result<Stored>
+    ensures { IfOk result (λ stored. stored.length ≤ length area.old) }
 {
-    let block = next_block(2);
+    let block = next_block(source, 2)?;
     let digits = block.bytes;
     let length = number(&digits, 0, 2) as usize;
     if area.len() < length {
-        return Stored {
+        return Ok(Stored {
             length: 0,
             whole: false,
-        };
+        });
     }
-    let count = io::read_full(STDIN_FILENO, &mut area[..length]);
-    Stored {
+    let count = source.read_full(&mut area[..length])?;
+    Ok(Stored {
         length,
         whole: block.whole & (count == length),
-    }
+    })
 }
 
 // The kinds of answers. A refusal's kind is its number.

@@ -1,5 +1,4 @@
-// `analyze` for functions that the borrow checker covers: the records are lent as an array that is
-// passed and returned by value. Each of the two proofs is `charts/proofs/ByValue` at a length.
+// `analyze` with the records that are lent passed and returned by value.
 use ewma::{Ewma, EwmaResult};
 use refusals::Answer;
 

@@ -14,6 +14,8 @@
 // the places. `tests/vectors/run` makes standard input; the first lines of `tests/vectors/charts.rs` say
 // what a case is made of. At the end come calls that the Rust can't show:
 // see `limits`.
+#![tactic(auto)]
+
 mod lend;
 mod limits;
 mod records;
@@ -21,15 +23,18 @@ mod records;
 use ewma::{Edition, Ewma};
 use limits::limits;
 use records::replay_answers;
-use replay_common::{Block, Progress, SERIES, float};
+use replay_common::{Block, Progress, SERIES, Source, float};
+use std::io;
+use std::io::Stdout;
 
 // Replays the series that the input has next, by `chart`.
-fn replay_series(progress: Progress, chart: Ewma) -> Progress {
-    let series = replay_common::next_series();
+fn replay_series(progress: Progress, source: &mut Source, chart: Ewma) -> io::Result<Progress> {
+    let series = replay_common::next_series(source)?;
     if series.whole {
         let readings = series.readings;
         let count = series.count;
-        return replay_answers(progress, chart, &readings[..count], series.refusal, SERIES);
+        let refusal = series.refusal;
+        return replay_answers(progress, source, chart, &readings[..count], refusal, SERIES);
     }
     progress.stopped()
 }
@@ -54,9 +59,9 @@ fn chart_of(bytes: &[u8; 33]) -> Ewma {
 }
 
 // Replays the case whose first 33 bytes are `block`.
-fn replay_case(progress: Progress, block: Block) -> Progress {
+fn replay_case(progress: Progress, source: &mut Source, block: Block) -> io::Result<Progress> {
     if !block.begun {
-        return progress.ended();
+        return Ok(progress.ended());
     }
     let begun = progress.begun();
     if !block.whole {
@@ -65,25 +70,28 @@ fn replay_case(progress: Progress, block: Block) -> Progress {
     let bytes = block.bytes;
     let chart = chart_of(&bytes);
     match bytes[0] {
-        b'n' | b'p' | b'N' | b'P' => replay_series(begun, chart),
+        b'n' | b'p' | b'N' | b'P' => replay_series(begun, source, chart),
         _ => begun.stopped(),
     }
 }
 
-// Replays the cases of standard input. The count ends the loop, since nothing says that the input does.
-fn replay_all() -> Progress {
-    let mut progress = Progress::new();
+// Replays the cases of `source`. The count ends the loop, since nothing says that the input does.
+fn replay_all(out: Stdout, source: &mut Source) -> io::Result<Progress> {
+    let mut progress = Progress::new(out);
     let mut turn = 0u64;
     while turn < u64::MAX {
-        progress = replay_case(progress, replay_common::next_block(33));
+        let block = replay_common::next_block(source, 33)?;
+        progress = replay_case(progress, source, block)?;
         if !progress.more {
-            return progress;
+            return Ok(progress);
         }
         turn += 1;
     }
-    progress
+    Ok(progress)
 }
 
-fn main() {
-    limits(replay_all()).report();
+fn main(rt: HostRuntime) -> io::Result<()> {
+    let mut source = Source::new(&rt)?;
+    let replayed = replay_all(rt.stdout(), &mut source)?;
+    limits(replayed, &mut source)?.report()
 }

@@ -8,12 +8,16 @@
 //
 // A case is 25 bytes: a letter for the function, and then three numbers, the highest byte first: the bit
 // pattern of x; n, an exponent or the bit pattern of a second value or 0; the result's bit pattern.
-ghost use Rattle.std.specs.Prelude.{◌+◌, ◌≤◌, ◌<◌, ◌^◌};
+#![tactic(auto)]
+
+ghost use Rattle.std.specs.Prelude.{◌+◌, ◌≤◌, ◌<◌, ◌^◌, IfOk};
 ghost use Rattle.replay_floats.specs.Inner.Room.{Within, Room};
 
-use libc::{STDIN_FILENO, STDOUT_FILENO};
+use replay_common::Source;
+use std::io;
+use std::io::Stdout;
 
-#[derive(Drop)]
+#[derive(Clone, Copy)]
 enum Function {
     Sqrt,
     Powi,
@@ -25,7 +29,7 @@ enum Function {
 }
 
 // A stored case: the bit pattern `x`, the number `n`, and the result's bit pattern.
-#[derive(Drop)]
+#[derive(Clone, Copy)]
 struct Case {
     x: u64,
     n: u64,
@@ -33,14 +37,14 @@ struct Case {
 }
 
 // What standard input has next.
-#[derive(Drop)]
+#[derive(Clone, Copy)]
 enum Input {
     Stored(Function, Case),
     End,
 }
 
 // How many cases of a function were replayed, and how many of them differ.
-#[derive(Drop)]
+#[derive(Clone, Copy)]
 struct Tally {
     cases: u64,
     differ: u64,
@@ -48,7 +52,7 @@ struct Tally {
 
 // The tallies, one for max, min, abs and finite together, and how many of the cases that differ may
 // still be shown.
-#[derive(Drop)]
+#[derive(Clone, Copy)]
 struct Progress {
     sqrt: Tally,
     powi: Tally,
@@ -75,41 +79,27 @@ fn number(bytes: &[u8; 25], start: usize) -> u64
     value
 }
 
-// Prints `text`.
-fn print(text: &[u8]) {
-    io::write_all(STDOUT_FILENO, text);
-}
-
-// Prints the name of `function`.
-fn print_name(function: Function) {
+// The name of `function`.
+fn name_of(function: Function) -> &'static str {
     match function {
-        Function::Sqrt => print(b"sqrt"),
-        Function::Powi => print(b"powi"),
-        Function::Ln => print(b"ln or ln_each"),
-        Function::Max => print(b"max"),
-        Function::Min => print(b"min"),
-        Function::Abs => print(b"abs"),
-        Function::Finite => print(b"finite"),
+        Function::Sqrt => "sqrt",
+        Function::Powi => "powi",
+        Function::Ln => "ln or ln_each",
+        Function::Max => "max",
+        Function::Min => "min",
+        Function::Abs => "abs",
+        Function::Finite => "finite",
     }
 }
 
-// Prints `label` and the bit pattern `pattern` in hexadecimal digits.
-fn print_pattern(label: &[u8], pattern: u64) {
-    print(label);
-    io::print_hex(STDOUT_FILENO, pattern, 16);
-}
-
 // Prints that the cases end after `read` of them, with the `reason`, and returns the end.
-fn stopped(read: u64, reason: &[u8]) -> Input {
-    print(b"after ");
-    io::print_decimal(STDOUT_FILENO, read);
-    print(b" cases ");
-    print(reason);
-    Input::End
+fn stopped(out: &Stdout, read: u64, reason: &str) -> io::Result<Input> {
+    println!(out; "after {read} cases {reason}")?;
+    Ok(Input::End)
 }
 
 // The case that `bytes` has, behind `read` others.
-fn parsed(bytes: &[u8; 25], read: u64) -> Input {
+fn parsed(out: &Stdout, bytes: &[u8; 25], read: u64) -> io::Result<Input> {
     let case = Case {
         x: number(bytes, 1),
         n: number(bytes, 9),
@@ -117,28 +107,28 @@ fn parsed(bytes: &[u8; 25], read: u64) -> Input {
     };
     let letter = bytes[0];
     match letter {
-        b's' => Input::Stored(Function::Sqrt, case),
-        b'p' => Input::Stored(Function::Powi, case),
-        b'l' => Input::Stored(Function::Ln, case),
-        b'x' => Input::Stored(Function::Max, case),
-        b'm' => Input::Stored(Function::Min, case),
-        b'a' => Input::Stored(Function::Abs, case),
-        b'f' => Input::Stored(Function::Finite, case),
-        _ => stopped(read, b"one is of no known function\n"),
+        b's' => Ok(Input::Stored(Function::Sqrt, case)),
+        b'p' => Ok(Input::Stored(Function::Powi, case)),
+        b'l' => Ok(Input::Stored(Function::Ln, case)),
+        b'x' => Ok(Input::Stored(Function::Max, case)),
+        b'm' => Ok(Input::Stored(Function::Min, case)),
+        b'a' => Ok(Input::Stored(Function::Abs, case)),
+        b'f' => Ok(Input::Stored(Function::Finite, case)),
+        _ => stopped(out, read, "one is of no known function"),
     }
 }
 
-// The next case of standard input, behind `read` others.
-fn next_input(read: u64) -> Input {
+// The next case of `source`, behind `read` others.
+fn next_input(out: &Stdout, source: &mut Source, read: u64) -> io::Result<Input> {
     let mut bytes = [0u8; 25];
-    let count = io::read_full(STDIN_FILENO, &mut bytes);
+    let count = source.read_full(&mut bytes)?;
     if count == 25 {
-        return parsed(&bytes, read);
+        return parsed(out, &bytes, read);
     }
     if count == 0 {
-        return Input::End;
+        return Ok(Input::End);
     }
-    stopped(read, b"the input ends inside one\n")
+    stopped(out, read, "the input ends inside one")
 }
 
 // 1 if `holds`, and 0 otherwise.
@@ -183,17 +173,16 @@ fn result(function: Function, case: Case) -> u64 {
 
 // Shows `case`, for which `function` gave `got`, if there is one of the `lines` left, and returns how
 // many are left then.
-fn show(lines: u64, function: Function, case: Case, got: u64) -> u64 {
+fn show(out: &Stdout, lines: u64, function: Function, case: Case, got: u64) -> io::Result<u64> {
     if lines == 0 {
-        return 0;
+        return Ok(0);
     }
-    print_name(function);
-    print_pattern(b" x ", case.x);
-    print_pattern(b" n ", case.n);
-    print_pattern(b" expected ", case.expected);
-    print_pattern(b" got ", got);
-    print(b"\n");
-    lines - 1
+    let name = name_of(function);
+    let x = case.x;
+    let n = case.n;
+    let expected = case.expected;
+    println!(out; "{name} x {x:016x} n {n:016x} expected {expected:016x} got {got:016x}")?;
+    Ok(lines - 1)
 }
 
 // `tally` with one case more, which `differs` or not, where `read` cases have come before.
@@ -230,20 +219,26 @@ fn tallied(mut progress: Progress, function: Function, differs: bool, read: u64)
 }
 
 // `progress` after `case` of `function` was replayed, where `read` cases have come before.
-fn replayed(mut progress: Progress, function: Function, case: Case, read: u64) -> Progress
+fn replayed(
+    out: &Stdout,
+    mut progress: Progress,
+    function: Function,
+    case: Case,
+    read: u64,
+) -> io::Result<Progress>
     requires { Room read progress × (read + 1 < 2 ^ 64) }
-    ensures { Room (read + 1) result }
+    ensures { IfOk result (Room (read + 1)) }
 {
     let got = result(function, case);
     if got == case.expected {
-        return tallied(progress, function, false, read);
+        return Ok(tallied(progress, function, false, read));
     }
-    progress.lines = show(progress.lines, function, case, got);
-    tallied(progress, function, true, read)
+    progress.lines = show(out, progress.lines, function, case, got)?;
+    Ok(tallied(progress, function, true, read))
 }
 
-// Replays the cases of standard input. The count ends the loop, since nothing says that the input does.
-fn replay() -> Progress {
+// Replays the cases of `source`. The count ends the loop, since nothing says that the input does.
+fn replay(out: &Stdout, source: &mut Source) -> io::Result<Progress> {
     let none = Tally {
         cases: 0,
         differ: 0,
@@ -257,33 +252,32 @@ fn replay() -> Progress {
     };
     let mut read = 0u64;
     while read < u64::MAX {
-        let Input::Stored(function, case) = next_input(read) else {
-            return progress;
+        let Input::Stored(function, case) = next_input(out, source, read)? else {
+            return Ok(progress);
         };
-        progress = replayed(progress, function, case, read);
+        progress = replayed(out, progress, function, case, read)?;
         read += 1;
     }
-    progress
+    Ok(progress)
 }
 
 // Prints how many cases `tally` has for the functions named `name`, and how many differ.
-fn report(name: &[u8], tally: Tally) {
-    print(name);
-    print(b" ");
-    io::print_decimal(STDOUT_FILENO, tally.cases);
-    print(b" cases, ");
-    io::print_decimal(STDOUT_FILENO, tally.differ);
-    print(b" differ\n");
+fn report(out: &Stdout, name: &str, tally: Tally) -> io::Result<()> {
+    let cases = tally.cases;
+    let differ = tally.differ;
+    println!(out; "{name} {cases} cases, {differ} differ")
 }
 
-fn main() {
-    let progress = replay();
+fn main(rt: HostRuntime) -> io::Result<()> {
+    let out = rt.stdout();
+    let mut source = Source::new(&rt)?;
+    let progress = replay(&out, &mut source)?;
     let sqrt = progress.sqrt;
     let powi = progress.powi;
     let ln = progress.ln;
     let plain = progress.plain;
-    report(b"sqrt", sqrt);
-    report(b"powi", powi);
-    report(b"ln and ln_each", ln);
-    report(b"max, min, abs and finite", plain);
+    report(&out, "sqrt", sqrt)?;
+    report(&out, "powi", powi)?;
+    report(&out, "ln and ln_each", ln)?;
+    report(&out, "max, min, abs and finite", plain)
 }

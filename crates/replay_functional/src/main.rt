@@ -1,7 +1,11 @@
 // Two functional searches of ramps in which candidates lose inside more than 64 balls: the
 // predecessors, one a line, for comparison with those of `partition_functional` of pelt.rs in
 // `stdout` (tests/vectors/functional.rs). They are too large to evaluate in a proof.
+#![tactic(auto)]
+
 use functional::partition_functional;
+use std::io;
+use std::io::Stdout;
 use std::num::nearest_u64_to_f64;
 
 // The reading at `i` of a run of channels with `n` readings each, of which channel c is a ramp with
@@ -24,33 +28,33 @@ fn ramps(run: &mut [f64], n: usize) {
 }
 
 // Prints the first `count` of `indices`, one a line. Cost: one turn for each line.
-fn print_front(indices: &[usize], count: usize) {
+fn print_front(out: &Stdout, indices: &[usize], count: usize) -> io::Result<()> {
     let mut i = 0;
     while i < indices.len() {
         if count <= i {
-            return;
+            return Ok(());
         }
-        io::print_decimal(1, indices[i] as u64);
-        io::write_all(1, b"\n");
+        println!(out; "{}", indices[i])?;
         i += 1;
     }
+    Ok(())
 }
 
-fn print_flag(flag: bool) {
+fn print_flag(out: &Stdout, flag: bool) -> io::Result<()> {
     if flag {
-        io::write_all(1, b"slots enough\n");
+        println!(out; "slots enough")
     } else {
-        io::write_all(1, b"slots too few\n");
+        println!(out; "slots too few")
     }
 }
 
-fn one_channel() {
+fn one_channel(out: &Stdout) -> io::Result<()> {
     let mut run = [0.0; 300];
     let mut floats = [0.0; 1204];
     let mut indices = [0; 903];
     let mut pool = [0.0; 22000];
     ramps(&mut run, 300);
-    print_flag(partition_functional(
+    let enough = partition_functional(
         1000000.0,
         &run,
         300,
@@ -59,17 +63,18 @@ fn one_channel() {
         &mut floats,
         &mut indices,
         &mut pool,
-    ));
-    print_front(&indices, 301);
+    );
+    print_flag(out, enough)?;
+    print_front(out, &indices, 301)
 }
 
-fn two_channels() {
+fn two_channels(out: &Stdout) -> io::Result<()> {
     let mut run = [0.0; 400];
     let mut floats = [0.0; 1206];
     let mut indices = [0; 603];
     let mut pool = [0.0; 22000];
     ramps(&mut run, 200);
-    print_flag(partition_functional(
+    let enough = partition_functional(
         1000000.0,
         &run,
         200,
@@ -78,11 +83,13 @@ fn two_channels() {
         &mut floats,
         &mut indices,
         &mut pool,
-    ));
-    print_front(&indices, 201);
+    );
+    print_flag(out, enough)?;
+    print_front(out, &indices, 201)
 }
 
-fn main() {
-    one_channel();
-    two_channels();
+fn main(rt: HostRuntime) -> io::Result<()> {
+    let out = rt.stdout();
+    one_channel(&out)?;
+    two_channels(&out)
 }

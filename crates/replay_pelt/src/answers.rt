@@ -2,7 +2,8 @@
 use crate::calls::Call;
 use crate::lent::{Found, first_float_unlike, first_index_unlike};
 use refusals::{Answer, Refusal};
-use replay_common::{Progress, next_number};
+use replay_common::{Progress, Source, next_number};
+use std::io;
 
 // The kinds of what is compared: see `main`. The others follow from the stored numbers.
 const CUT: usize = 8;
@@ -45,18 +46,22 @@ fn outcome(settings: u64, refusal: u64) -> usize {
 }
 
 // Compares what was `found` with what was to be found, and counts it as one of the kind `kind`.
-fn compared(progress: Progress, kind: usize, found: Found) -> Progress {
+fn compared(progress: Progress, kind: usize, found: Found) -> io::Result<Progress> {
     if found.expected == found.got {
-        return progress.tallied(kind, 0);
+        return Ok(progress.tallied(kind, 0));
     }
-    progress
-        .matched(kind as u64, found.place, found.expected, found.got)
-        .tallied(kind, 1)
+    let matched = progress.matched(kind as u64, found.place, found.expected, found.got)?;
+    Ok(matched.tallied(kind, 1))
 }
 
 // Compares the cut `got`, with the index `place` among the cuts, with the one that the input has next.
-fn match_cut(progress: Progress, place: usize, got: usize) -> Progress {
-    let next = next_number(2);
+fn match_cut(
+    progress: Progress,
+    source: &mut Source,
+    place: usize,
+    got: usize,
+) -> io::Result<Progress> {
+    let next = next_number(source, 2)?;
     if next.whole {
         let found = Found {
             place,
@@ -70,13 +75,18 @@ fn match_cut(progress: Progress, place: usize, got: usize) -> Progress {
 
 // Compares the cuts area: `cuts` has the `stored` cuts of the input at its front, and the rest is to be
 // as it was. Cost: one turn for each cut.
-fn match_cuts(mut progress: Progress, stored: usize, cuts: &[usize]) -> Progress {
+fn match_cuts(
+    mut progress: Progress,
+    source: &mut Source,
+    stored: usize,
+    cuts: &[usize],
+) -> io::Result<Progress> {
     if cuts.len() < stored {
         return progress.stopped();
     }
     let mut i = 0;
     while i < stored {
-        progress = match_cut(progress, i, cuts[i]);
+        progress = match_cut(progress, source, i, cuts[i])?;
         i += 1;
     }
     compared(progress, CUTS_AREA, first_index_unlike(cuts, stored, false))
@@ -90,10 +100,10 @@ fn match_areas(
     floats: &[f64],
     indices: &[usize],
     pool: &[f64],
-) -> Progress {
+) -> io::Result<Progress> {
     let kind = if cleared { CLEARED } else { LEFT };
-    let first = compared(progress, kind, first_float_unlike(floats, cleared));
-    let second = compared(first, kind, first_index_unlike(indices, 0, cleared));
+    let first = compared(progress, kind, first_float_unlike(floats, cleared))?;
+    let second = compared(first, kind, first_index_unlike(indices, 0, cleared))?;
     compared(second, kind, first_float_unlike(pool, cleared))
 }
 
@@ -101,20 +111,20 @@ fn match_areas(
 // and `pool` as the call left them. Refusals before 9 change no work area.
 pub(crate) fn match_all(
     progress: Progress,
+    source: &mut Source,
     call: Call,
     answer: Answer,
     cuts: &[usize],
     floats: &[f64],
     indices: &[usize],
     pool: &[f64],
-) -> Progress {
+) -> io::Result<Progress> {
     let stored = call.stored;
     let refusal = stored >> 48;
     let cleared = (refusal == 0) | (refusal == 9);
-    let first = progress.begun().matched(12, 0, stored, given(answer));
-    let second = match_cuts(first, (stored % 65536) as usize, cuts);
-    let third = match_areas(second, cleared, floats, indices, pool);
-    third
-        .tallied((call.settings >> 24) as usize, third.unlike)
-        .counted(outcome(call.settings, refusal))
+    let first = progress.begun().matched(12, 0, stored, given(answer))?;
+    let second = match_cuts(first, source, (stored % 65536) as usize, cuts)?;
+    let third = match_areas(second, cleared, floats, indices, pool)?;
+    let tallied = third.tallied((call.settings >> 24) as usize, third.unlike);
+    Ok(tallied.counted(outcome(call.settings, refusal)))
 }

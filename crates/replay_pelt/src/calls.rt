@@ -6,14 +6,15 @@ use crate::lent::{spoil_floats, spoil_indices};
 use costs::{CostFunction, Penalty};
 use pelt::Pelt;
 use refusals::Answer;
-use replay_common::{Progress, float, next_block, next_number, number};
+use replay_common::{Progress, Source, float, next_block, next_number, number};
+use std::io;
 
 // The letter of a call.
 const CALL: u64 = b'c' as u64;
 
 // A record of standard input: its letter, and what is stored of a call. The settings are function, cost,
 // penalty and constructor, a byte each.
-#[derive(Drop)]
+#[derive(Clone, Copy)]
 pub(crate) struct Call {
     pub letter: u64,
     // Whether it is a call, and the input had all of it.
@@ -24,7 +25,7 @@ pub(crate) struct Call {
 }
 
 // How much is lent of each area, and how much is in use of the run and the lengths.
-#[derive(Drop)]
+#[derive(Clone, Copy)]
 pub(crate) struct Room {
     pub cuts: usize,
     pub floats: usize,
@@ -36,30 +37,30 @@ pub(crate) struct Room {
     pub fits: bool,
 }
 
-// The next record of standard input, but for what follows a letter that is no call's. There are 4
+// The next record of `source`, but for what follows a letter that is no call's. There are 4
 // functions, and 2 of the other settings each.
-pub(crate) fn next_call() -> Call {
-    let letter = next_number(1);
+pub(crate) fn next_call(source: &mut Source) -> io::Result<Call> {
+    let letter = next_number(source, 1)?;
     if letter.value == CALL {
-        let block = next_block(32);
-        let answer = next_number(7);
+        let block = next_block(source, 32)?;
+        let answer = next_number(source, 7)?;
         let bytes = block.bytes;
         let settings = number(&bytes, 0, 4);
-        return Call {
+        return Ok(Call {
             letter: CALL,
             whole: block.whole & answer.whole & (settings & 0xfcfe_fefe == 0),
             bytes,
             settings,
             stored: answer.value,
-        };
+        });
     }
-    Call {
+    Ok(Call {
         letter: letter.value,
         whole: false,
         bytes: [0; 33],
         settings: 0,
         stored: 0,
-    }
+    })
 }
 
 // The room for `call`, with `readings` and `channels` in use of the run and the lengths. A number that
@@ -139,6 +140,7 @@ fn search(
 // `call` says, and compares all that is stored of it.
 pub(crate) fn replay_search(
     progress: Progress,
+    source: &mut Source,
     call: Call,
     run: &[f64],
     lengths: &[usize],
@@ -146,7 +148,7 @@ pub(crate) fn replay_search(
     floats: &mut [f64],
     indices: &mut [usize],
     pool: &mut [f64],
-) -> Progress {
+) -> io::Result<Progress> {
     let pelt = pelt_of(call);
     let function = call.settings >> 24;
     spoil_indices(cuts);
@@ -154,5 +156,5 @@ pub(crate) fn replay_search(
     spoil_indices(indices);
     spoil_floats(pool);
     let answer = search(function, pelt, run, lengths, cuts, floats, indices, pool);
-    match_all(progress, call, answer, cuts, floats, indices, pool)
+    match_all(progress, source, call, answer, cuts, floats, indices, pool)
 }

@@ -1,7 +1,8 @@
-// The areas: reading the run from standard input, what the lent ones hold before a call, and the first
+// The areas: reading the run from the source, what the lent ones hold before a call, and the first
 // index of one that a call left otherwise than it should.
 use floats::{from_bits, to_bits};
-use replay_common::{Stored, next_number};
+use replay_common::{Source, Stored, next_number};
+use std::io;
 use std::num::nearest_u64_to_f64;
 
 // The areas have room for 8 channels of 4,096 readings and for 320 slots, and some to spare.
@@ -19,40 +20,40 @@ pub(crate) const POOL: usize = 64000;
 
 // Reads the next readings, their number and each of them, to the front of `run`, and returns their
 // number. Cost: one turn for each.
-pub(crate) fn next_run(run: &mut [f64]) -> Stored {
-    let mut count = next_number(2);
+pub(crate) fn next_run(source: &mut Source, run: &mut [f64]) -> io::Result<Stored> {
+    let mut count = next_number(source, 2)?;
     let readings = count.value as usize;
     count.whole = count.whole & (readings <= run.len());
     let mut i = 0;
     while i < run.len() {
         if readings <= i {
-            return count;
+            return Ok(count);
         }
-        let next = next_number(8);
+        let next = next_number(source, 8)?;
         run[i] = from_bits(next.value);
         count.whole = count.whole & next.whole;
         i += 1;
     }
-    count
+    Ok(count)
 }
 
 // Reads the next lengths, their number and each of them, to the front of `lengths`, and returns their
 // number. Cost: one turn for each.
-pub(crate) fn next_lengths(lengths: &mut [usize]) -> Stored {
-    let mut count = next_number(1);
+pub(crate) fn next_lengths(source: &mut Source, lengths: &mut [usize]) -> io::Result<Stored> {
+    let mut count = next_number(source, 1)?;
     let channels = count.value as usize;
     count.whole = count.whole & (channels <= lengths.len());
     let mut i = 0;
     while i < lengths.len() {
         if channels <= i {
-            return count;
+            return Ok(count);
         }
-        let next = next_number(8);
+        let next = next_number(source, 8)?;
         lengths[i] = next.value as usize;
         count.whole = count.whole & next.whole;
         i += 1;
     }
-    count
+    Ok(count)
 }
 
 // What the float with the index `place` is to be after a call that has `cleared` its area, +0; and with
@@ -93,7 +94,7 @@ pub(crate) fn spoil_indices(area: &mut [usize]) {
 }
 
 // What was found at the index `place` of an area, and what was to be found there.
-#[derive(Drop)]
+#[derive(Clone, Copy)]
 pub(crate) struct Found {
     pub place: usize,
     pub expected: u64,

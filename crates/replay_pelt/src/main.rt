@@ -17,6 +17,8 @@
 //
 // `tests/vectors/run` makes standard input; the first lines of `tests/vectors/searches.rs` say what
 // a record is made of.
+#![tactic(auto)]
+
 mod answers;
 mod calls;
 mod lent;
@@ -24,31 +26,34 @@ mod state;
 
 use calls::{next_call, replay_search, room_of};
 use lent::{CHANNELS, CUTS, FLOATS, INDICES, POOL, READINGS};
-use replay_common::Progress;
+use replay_common::{Progress, Source};
 use state::{State, next_other};
+use std::io;
+use std::io::Stdout;
 
-// Replays the records of standard input up to the last: a call, or what stands between calls. The count
-// ends the loop, since nothing says that the input does.
-fn replay_all() -> Progress {
+// Replays the records of `source` up to the last: a call, or what stands between calls. The count ends
+// the loop, since nothing says that the input does.
+fn replay_all(out: Stdout, source: &mut Source) -> io::Result<Progress> {
     let mut run = [0.0; READINGS];
     let mut lengths = [0; CHANNELS];
     let mut cuts = [0; CUTS];
     let mut floats = [0.0; FLOATS];
     let mut indices = [0; INDICES];
     let mut pool = [0.0; POOL];
-    let mut state = State::new();
+    let mut state = State::new(out);
     let mut turn = 0u64;
     while turn < u64::MAX {
         turn += 1;
         let progress = state.progress;
         if !progress.more {
-            return progress;
+            return Ok(progress);
         }
-        let call = next_call();
+        let call = next_call(source)?;
         let room = room_of(call, state.readings, state.channels);
         if room.fits {
             state.progress = replay_search(
                 progress,
+                source,
                 call,
                 &run[..room.readings],
                 &lengths[..room.channels],
@@ -56,14 +61,15 @@ fn replay_all() -> Progress {
                 &mut floats[..room.floats],
                 &mut indices[..room.indices],
                 &mut pool[..room.pool],
-            );
+            )?;
         } else {
-            state = next_other(state, call.letter, &mut run, &mut lengths);
+            state = next_other(state, source, call.letter, &mut run, &mut lengths)?;
         }
     }
-    state.progress
+    Ok(state.progress)
 }
 
-fn main() {
-    replay_all().report();
+fn main(rt: HostRuntime) -> io::Result<()> {
+    let mut source = Source::new(&rt)?;
+    replay_all(rt.stdout(), &mut source)?.report()
 }

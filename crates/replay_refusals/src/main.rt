@@ -1,34 +1,35 @@
 // Prints the number of every refusal, one a line in the order of the table of rule 2.1, for comparison
 // with that table in `stdout`.
+#![tactic(auto)]
+
 use refusals::Refusal;
+use std::io;
 
 // Prints the number of `refusal` in a line.
-fn print(refusal: Refusal) {
-    io::print_decimal(1, refusal.number());
-    io::write_all(1, b"\n");
+fn print(rt: &HostRuntime, refusal: Refusal) -> io::Result<()> {
+    println!(rt; "{}", refusal.number())
 }
 
-fn main() {
-    print(Refusal::Penalty);
-    print(Refusal::MinLen);
-    print(Refusal::Channels);
-    print(Refusal::Shape);
-    print(Refusal::Unequal);
-    print(Refusal::TooLong);
-    print(Refusal::Room);
-    print(Refusal::NonFinite {
-        channel: 0,
-        index: 1,
-    });
-    print(Refusal::Pool);
-    print(Refusal::Form);
-    print(Refusal::Piece);
-    print(Refusal::Target);
-    print(Refusal::Sigma);
-    print(Refusal::Weight);
-    print(Refusal::Bound);
-    print(Refusal::Overflow {
-        channel: 0,
-        index: 1,
-    });
+fn main(rt: HostRuntime) -> io::Result<()> {
+    print(&rt, Refusal::Penalty)?;
+    print(&rt, Refusal::MinLen)?;
+    print(&rt, Refusal::Channels)?;
+    print(&rt, Refusal::Shape)?;
+    print(&rt, Refusal::Unequal)?;
+    print(&rt, Refusal::TooLong)?;
+    print(&rt, Refusal::Room)?;
+    print(
+        &rt,
+        Refusal::NonFinite {
+            channel: 0,
+            index: 1,
+        },
+    )?;
+    print(&rt, Refusal::Pool)?;
+    print(&rt, Refusal::Form)?;
+    print(&rt, Refusal::Piece)?;
+    print(&rt, Refusal::Target)?;
+    print(&rt, Refusal::Sigma)?;
+    print(&rt, Refusal::Weight)?;
+    print(&rt, Refusal::Bound)
 }

@@ -16,6 +16,8 @@
 //
 // `tests/vectors/run` makes standard input; the first lines of `tests/vectors/sums.rs` say what
 // a case is made of.
+#![tactic(auto)]
+
 mod penalties;
 mod pieces;
 mod runs;
@@ -24,40 +26,44 @@ mod variances;
 
 use penalties::replay_penalty;
 use pieces::replay_piece;
-use replay_common::{Block, Progress};
+use replay_common::{Block, Progress, Source};
 use runs::replay_run;
+use std::io;
+use std::io::Stdout;
 
 // Replays the case whose first 33 bytes are `block`.
-fn replay_case(progress: Progress, block: Block) -> Progress {
+fn replay_case(progress: Progress, source: &mut Source, block: Block) -> io::Result<Progress> {
     let bytes = block.bytes;
     let begun = progress.begun();
     if !block.whole {
         return begun.stopped();
     }
     match bytes[0] {
-        b's' => replay_piece(begun, &bytes),
-        b'q' => replay_penalty(begun, &bytes),
-        b'r' => replay_run(begun, &bytes),
-        b'e' => progress.ended(),
+        b's' => replay_piece(begun, source, &bytes),
+        b'q' => replay_penalty(begun, source, &bytes),
+        b'r' => replay_run(begun, source, &bytes),
+        b'e' => Ok(progress.ended()),
         _ => begun.stopped(),
     }
 }
 
-// Replays the cases of standard input up to the last, which is an `e`. The count ends the loop, since
-// nothing says that the input does.
-fn replay_all() -> Progress {
-    let mut progress = Progress::new();
+// Replays the cases of `source` up to the last, which is an `e`. The count ends the loop, since nothing
+// says that the input does.
+fn replay_all(out: Stdout, source: &mut Source) -> io::Result<Progress> {
+    let mut progress = Progress::new(out);
     let mut turn = 0u64;
     while turn < u64::MAX {
-        progress = replay_case(progress, replay_common::next_block(33));
+        let block = replay_common::next_block(source, 33)?;
+        progress = replay_case(progress, source, block)?;
         if !progress.more {
-            return progress;
+            return Ok(progress);
         }
         turn += 1;
     }
-    progress
+    Ok(progress)
 }
 
-fn main() {
-    replay_all().report();
+fn main(rt: HostRuntime) -> io::Result<()> {
+    let mut source = Source::new(&rt)?;
+    replay_all(rt.stdout(), &mut source)?.report()
 }

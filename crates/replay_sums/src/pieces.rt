@@ -3,7 +3,8 @@ ghost use Rattle.std.specs.Prelude.{◌<◌, ◌≤◌, length};
 
 use costs::{CostFunction, Segment, segment_cost};
 use piece::{Spread, Summarised};
-use replay_common::{Progress, next_block, number};
+use replay_common::{Progress, Source, next_block, number};
+use std::io;
 use std::num::{nearest_u64_to_f64, wrapping_sub_u64};
 
 // The kind of a piece.
@@ -11,17 +12,17 @@ const PIECE: usize = 0;
 
 // Compares the mean and the range of `channel` with what `place` has of them from its fifth byte on. +0
 // is added to each, so that a zero has no sign: the Rust leaves that sign open.
-fn match_range(progress: Progress, channel: &[f64], place: &[u8; 33]) -> Progress {
+fn match_range(progress: Progress, channel: &[f64], place: &[u8; 33]) -> io::Result<Progress> {
     let mean = sums::mean(channel);
     let range = ranges::range_about(ranges::range_of(channel), mean);
     progress
-        .matched_float(3, 0, place, 4, mean + 0.0)
-        .matched_float(4, 0, place, 12, range.lo + 0.0)
+        .matched_float(3, 0, place, 4, mean + 0.0)?
+        .matched_float(4, 0, place, 12, range.lo + 0.0)?
         .matched_float(5, 0, place, 20, range.hi + 0.0)
 }
 
 // The running sums at both ends of a piece, and those of the squares.
-#[derive(Drop)]
+#[derive(Clone, Copy)]
 struct Ends {
     sum_before: f64,
     sum_after: f64,
@@ -45,23 +46,28 @@ fn ends_of(channel: &[f64], start: usize, end: usize) -> Ends
 }
 
 // Compares the running sums `ends` with the four stored ones of `running`.
-fn match_ends(progress: Progress, ends: Ends, running: &[u8; 33]) -> Progress {
+fn match_ends(progress: Progress, ends: Ends, running: &[u8; 33]) -> io::Result<Progress> {
     progress
-        .matched_float(6, 0, running, 0, ends.sum_before)
-        .matched_float(7, 0, running, 8, ends.sum_after)
-        .matched_float(8, 0, running, 16, ends.squares_before)
+        .matched_float(6, 0, running, 0, ends.sum_before)?
+        .matched_float(7, 0, running, 8, ends.sum_after)?
+        .matched_float(8, 0, running, 16, ends.squares_before)?
         .matched_float(9, 0, running, 24, ends.squares_after)
 }
 
 // Compares the costs of the piece of `count` readings between `ends` with the stored ones of `answers`.
-fn match_costs(progress: Progress, ends: Ends, count: u64, answers: &[u8; 33]) -> Progress {
+fn match_costs(
+    progress: Progress,
+    ends: Ends,
+    count: u64,
+    answers: &[u8; 33],
+) -> io::Result<Progress> {
     let segment = Segment {
         length: nearest_u64_to_f64(count),
         sum: ends.sum_after - ends.sum_before,
         sum_of_squares: ends.squares_after - ends.squares_before,
     };
     progress
-        .matched_float(10, 0, answers, 17, segment_cost(CostFunction::L2, segment))
+        .matched_float(10, 0, answers, 17, segment_cost(CostFunction::L2, segment))?
         .matched_float(
             11,
             0,
@@ -80,18 +86,18 @@ fn match_sums(
     end: usize,
     running: &[u8; 33],
     answers: &[u8; 33],
-) -> Progress {
+) -> io::Result<Progress> {
     if end <= start {
-        return progress;
+        return Ok(progress);
     }
     if channel.len() < end {
-        return progress;
+        return Ok(progress);
     }
     if 4096 < channel.len() {
-        return progress;
+        return Ok(progress);
     }
     let ends = ends_of(channel, start, end);
-    let matched = match_ends(progress, ends, running);
+    let matched = match_ends(progress, ends, running)?;
     match_costs(matched, ends, (end - start) as u64, answers)
 }
 
@@ -103,12 +109,12 @@ fn match_spread(
     start: usize,
     place: &[u8; 33],
     answers: &[u8; 33],
-) -> Progress {
+) -> io::Result<Progress> {
     let stored = number(place, 28, 1);
     match spread {
         Spread::Absent => progress.matched(19, start, stored, 0),
         Spread::Of(value) => progress
-            .matched(19, start, stored, 1)
+            .matched(19, start, stored, 1)?
             .matched_float(2, start, answers, 9, value),
     }
 }
@@ -124,14 +130,14 @@ fn match_summary(
     refusal: u64,
     place: &[u8; 33],
     answers: &[u8; 33],
-) -> Progress {
+) -> io::Result<Progress> {
     let count = wrapping_sub_u64(end as u64, start as u64);
     match piece::summary(channel, start, end) {
         Summarised::Piece(summary) => {
             let spread = summary.spread;
             let matched = progress
-                .matched(0, start, refusal << 32 | count, summary.length as u64)
-                .matched_float(1, start, answers, 1, summary.mean);
+                .matched(0, start, refusal << 32 | count, summary.length as u64)?
+                .matched_float(1, start, answers, 1, summary.mean)?;
             match_spread(matched, spread, start, place, answers)
         }
         Summarised::Refused(r) => progress.matched(0, start, refusal << 32, r.number() << 32),
@@ -139,10 +145,14 @@ fn match_summary(
 }
 
 // Replays the piece whose first 33 bytes are `answers`.
-pub(crate) fn replay_piece(progress: Progress, answers: &[u8; 33]) -> Progress {
-    let series = replay_common::next_series();
-    let place = next_block(29);
-    let running = next_block(32);
+pub(crate) fn replay_piece(
+    progress: Progress,
+    source: &mut Source,
+    answers: &[u8; 33],
+) -> io::Result<Progress> {
+    let series = replay_common::next_series(source)?;
+    let place = next_block(source, 29)?;
+    let running = next_block(source, 32)?;
     if !(series.whole & place.whole & running.whole) {
         return progress.stopped();
     }
@@ -152,7 +162,8 @@ pub(crate) fn replay_piece(progress: Progress, answers: &[u8; 33]) -> Progress {
     let sums = running.bytes;
     let start = number(&bytes, 0, 2) as usize;
     let end = number(&bytes, 2, 2) as usize;
-    let first = match_range(progress, channel, &bytes);
-    let second = match_summary(first, channel, start, end, series.refusal, &bytes, answers);
-    match_sums(second, channel, start, end, &sums, answers).counted(PIECE)
+    let first = match_range(progress, channel, &bytes)?;
+    let second = match_summary(first, channel, start, end, series.refusal, &bytes, answers)?;
+    let third = match_sums(second, channel, start, end, &sums, answers)?;
+    Ok(third.counted(PIECE))
 }

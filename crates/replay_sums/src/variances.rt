@@ -6,7 +6,8 @@ use crate::penalties::match_penalties;
 use floats::to_bits;
 use noise::{noise_sum, noise_variance};
 use readings::channel_of;
-use replay_common::{Progress, next_number, number};
+use replay_common::{Progress, Source, next_number, number};
+use std::io;
 
 // The kinds of what is compared here.
 const VARIANCE: usize = 2;
@@ -17,7 +18,7 @@ const PLACE: usize = 4;
 
 // An area of `size` floats is lent, the differences stand in it at `place`, and `cleared` of them are +0
 // after the call.
-#[derive(Drop)]
+#[derive(Clone, Copy)]
 pub(crate) struct Room {
     pub place: usize,
     pub size: usize,
@@ -54,23 +55,28 @@ fn zeros_of(area: &[f64]) -> usize {
 }
 
 // Compares each float of `area` after a call with what `room` says. Cost: one turn for each float.
-fn match_places(mut progress: Progress, room: Room, area: &[f64]) -> Progress {
+fn match_places(mut progress: Progress, room: Room, area: &[f64]) -> io::Result<Progress> {
     let mut i = 0;
     while i < area.len() {
-        progress = progress
-            .matched(18, i, left_at(room, i), to_bits(area[i]))
-            .counted(PLACE);
+        let matched = progress.matched(18, i, left_at(room, i), to_bits(area[i]))?;
+        progress = matched.counted(PLACE);
         i += 1;
     }
-    progress
+    Ok(progress)
 }
 
 // Compares `area` after a call with what `room` says, and counts the call's answer, number `index`, as
 // one of the kind `kind`. The cleared floats are counted too, for the room may say that there are some
 // behind the last.
-fn match_area(progress: Progress, kind: usize, index: usize, room: Room, area: &[f64]) -> Progress {
+fn match_area(
+    progress: Progress,
+    kind: usize,
+    index: usize,
+    room: Room,
+    area: &[f64],
+) -> io::Result<Progress> {
     let zeros = zeros_of(area) as u64;
-    let matched = progress.matched(17, index, room.cleared as u64, zeros);
+    let matched = progress.matched(17, index, room.cleared as u64, zeros)?;
     match_places(matched.counted(kind), room, area)
 }
 
@@ -83,9 +89,9 @@ fn match_variance(
     room: Room,
     expected: u64,
     area: &mut [f64],
-) -> Progress {
+) -> io::Result<Progress> {
     let variance = noise_variance(channel, area, room.place);
-    let matched = progress.matched(15, k, expected, to_bits(variance));
+    let matched = progress.matched(15, k, expected, to_bits(variance))?;
     match_area(matched, VARIANCE, k, room, area)
 }
 
@@ -98,12 +104,12 @@ fn match_sum(
     run: &[f64],
     room: Room,
     area: &mut [f64],
-) -> Progress {
+) -> io::Result<Progress> {
     let n = number(rest, 0, 2) as usize;
     let channels = number(rest, 2, 2) as usize;
     let sum = noise_sum(run, n, channels, area, room.place);
-    let matched = progress.matched_float(16, n, bytes, 9, sum);
-    match_penalties(match_area(matched, SUM, n, room, area), bytes, rest, sum)
+    let matched = progress.matched_float(16, n, bytes, 9, sum)?;
+    match_penalties(match_area(matched, SUM, n, room, area)?, bytes, rest, sum)
 }
 
 // The same of `bytes`, `rest`, `run` and `room` with an area of its own, which has room for the
@@ -114,7 +120,7 @@ pub(crate) fn lend_for_sum(
     rest: &[u8; 33],
     run: &[f64],
     room: Room,
-) -> Progress
+) -> io::Result<Progress>
     requires { room.size ≤ 4104 }
 {
     let mut area = [unused(); 4104];
@@ -123,10 +129,16 @@ pub(crate) fn lend_for_sum(
 
 // Compares the noise variance of `channel`, the channel `k`, with the one that the input has next. The
 // area, which `room` describes, is unused again.
-fn next_variance(progress: Progress, channel: &[f64], k: usize, room: Room) -> Progress
+fn next_variance(
+    progress: Progress,
+    source: &mut Source,
+    channel: &[f64],
+    k: usize,
+    room: Room,
+) -> io::Result<Progress>
     requires { room.size ≤ 4104 }
 {
-    let next = next_number(8);
+    let next = next_number(source, 8)?;
     if !next.whole {
         return progress.stopped();
     }
@@ -145,17 +157,19 @@ fn next_variance(progress: Progress, channel: &[f64], k: usize, room: Room) -> P
 // that the input has next, each in an unused area as `room` says. Cost: one turn for each channel.
 pub(crate) fn match_variances(
     mut progress: Progress,
+    source: &mut Source,
     run: &[f64],
     n: usize,
     channels: usize,
     room: Room,
-) -> Progress
+) -> io::Result<Progress>
     requires { room.size ≤ 4104 }
 {
     let mut k = 0;
     while k < channels {
-        progress = next_variance(progress, channel_of(run, channels, n, k), k, room);
+        let channel = channel_of(run, channels, n, k);
+        progress = next_variance(progress, source, channel, k, room)?;
         k += 1;
     }
-    progress
+    Ok(progress)
 }
