@@ -3,9 +3,8 @@
  *
  * How to build
  *
- * tools/library writes target/library/liboverbrindle.a for this machine: on x86-64 Linux the archive of
- * `rt staticlib desk`, elsewhere the same module compiled for the processor. It needs memcpy and memset
- * of the C library and nothing else:
+ * tools/library writes target/library/liboverbrindle.a for x86-64 Linux, the archive of `rt lib` in
+ * crates/desk. It needs memcpy and memset of the C library and nothing else:
  *
  *     cc -Iinclude program.c target/library/liboverbrindle.a -o program
  *

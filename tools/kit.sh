@@ -18,23 +18,27 @@ folder() {
     (cd "$1" 2>/dev/null && pwd) || stop "there is no folder $1"
 }
 
-# Sets kit, the kit's folder; machine, the processor's name; and tools, the kit's folder of tools for it.
+# Sees that the kit is there, and that this machine is one that it builds for.
 find_kit() {
     command -v rt >/dev/null ||
         stop "no Rattle kit: put its folder bin on the path, so that 'rt version' answers"
-    kit=${RATTLE_HOME:-$(dirname "$(dirname "$(readlink -f "$(command -v rt)")")")}
-    machine=$(uname -m)
-    tools=$kit/on/$machine/toolchain
-    [ -d "$tools" ] || stop "the kit has no tools for this processor, $machine"
+    [ "$(uname -m)" = x86_64 ] || stop "the kit builds for x86-64 alone, and this is $(uname -m)"
 }
 
-# proved COMMAND...: runs a command of rt. What it says goes to target/log, and to standard error a line for
-# each crate that is proved now; where it fails, all of it.
+# older FILE: whether FILE, which is made of the crates, is not there or older than something that it is made of.
+older() {
+    [ ! -f "$1" ] || [ -n "$(find "$root/crates" "$root/crates.txt" -name out -prune -o -type f -newer "$1" -print | head -n 1)" ]
+}
+
+# proved CRATE COMMAND...: runs a command of rt in the folder of a crate. What it says goes to target/log, and to
+# standard error a line for each crate that is proved; where it fails, all of it.
 proved() {
-    mkdir -p target/log
-    log=target/log/$(echo "$*" | tr -c 'A-Za-z0-9\n' _).out
-    { "$@" </dev/null 2>&1 || echo "$* ended with status $?"; } | tee "$log" |
-        sed -n -e '/unchanged since/d' -e 's/^rt: \(.* proved ([0-9].*\)/\1/p' >&2
+    crate=$1
+    shift
+    mkdir -p "$root/target/log"
+    log=$root/target/log/$(echo "$crate $*" | tr -c 'A-Za-z0-9\n' _).out
+    { (cd "$root/crates/$crate" && "$@") </dev/null 2>&1 || echo "$* ended with status $?"; } | tee "$log" |
+        sed -n -e 's/^logic=proved functions=\([0-9]*\).*/one crate more is proved: \1 functions/p' >&2
     case $(tail -n 1 "$log") in
     "$* ended with status "*)
         cat "$log" >&2

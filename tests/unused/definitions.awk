@@ -3,18 +3,13 @@
 # promise theorems. A name counts as used where a line outside its own declaration says it: in its own
 # file, in a file that imports it, or behind the word that a file imports its module as. What a document
 # says counts as used, and all of a file of proofs that it names without a list of names. The proofs of
-# contracts (`NAME-spec`) are not listed. `private=1` lists what is not public too.
+# contracts (`NAME_spec`, and what stands in Answers and Invariants) are not listed. `private=1` lists what is not public too.
 
-# the file behind a path like Rattle·readings·specs.specs.Shape
-function file_of(path,    crate) {
-    if (path !~ /^Rattle·/) return ""
-    sub(/^Rattle·/, "", path)
-    crate = path
-    sub(/[.].*/, "", crate)
-    sub(/·.*/, "", crate)
-    sub(/^[^.]*[.]/, "", path)
+# the file behind a path like Rattle.readings.specs.Shape
+function file_of(path) {
+    if (!sub(/^Rattle[.]/, "", path)) return ""
     gsub(/[.]/, "/", path)
-    return "crates/" crate "/" path ".antt"
+    return "crates/" path ".antt"
 }
 
 # notes what a `use` line brings into this file
@@ -46,9 +41,9 @@ function declared(line,    words, i) {
     return words[i + 1] == ":" && words[i] !~ /^[({]/ ? words[i] : ""
 }
 
-# a mixfix name like _<ᶠ_ is said by its words
+# a mixfix name like ◌<ᶠ◌ is said by its words
 function note_mixfix(name,    parts, count, i) {
-    count = split(name, parts, /_+/)
+    count = split(name, parts, /(◌)+/)
     for (i = 1; i <= count; i++)
         if (parts[i] != "") mixfix[parts[i]] = name
 }
@@ -128,7 +123,7 @@ END {
         file = files[i]
         name = names[i]
         if (!public[i] && !private) continue
-        if (file ~ /\/proofs\// && name ~ /-spec$/) continue
+        if (file ~ /\/proofs\// && (name ~ /_spec$/ || file ~ /\/(Answers|Invariants)[.]antt$/)) continue
         if (used[file, name] || promised[name] || promised_file[file]) continue
         sub(/^crates\//, "", file)
         print file ": " name

@@ -48,14 +48,35 @@ FILENAME !~ /^crates\// {
 
 { sub(/\/\/.*$/, "") }
 
-/^(ghost |pub )*use / {
-    if ($2 == "use" && $1 == "pub") {
-        sub(/;$/, "", $3)
-        if (library) exported[crate, last($3)] = last($3) ~ /^[A-Z][a-z]/ ? "type" : "item"
-        named[crate, $3] = 1
-    } else if ($1 == "use") {
-        sub(/;$/, "", $2)
-        brought[FILENAME, last($2)] = $2
+# what a `use` line brings in, or exports where `public` is 1; a group in braces is several paths
+function note_use(path, public,    head, names, list, count, i) {
+    gsub(/[; ]/, "", path)
+    if (path ~ /::[{]/) {
+        head = names = path
+        sub(/[{].*/, "", head)
+        sub(/^[^{]*[{]/, "", names)
+        sub(/[}].*/, "", names)
+        count = split(names, list, ",")
+        for (i = 1; i <= count; i++) if (list[i] != "") note_use(head list[i], public)
+    } else if (public) {
+        if (library) exported[crate, last(path)] = last(path) ~ /^[A-Z][a-z]/ ? "type" : "item"
+        named[crate, path] = 1
+    } else {
+        brought[FILENAME, last(path)] = path
+    }
+}
+
+/^(ghost |pub )*use / || group != "" {
+    group = group == "" ? $0 : group " " $0
+    if (group !~ /;/) next
+    line = group
+    group = ""
+    if (line ~ /^pub use /) {
+        sub(/^pub use /, "", line)
+        note_use(line, 1)
+    } else if (line ~ /^use /) {
+        sub(/^use /, "", line)
+        note_use(line, 0)
     }
     next
 }
