@@ -41,11 +41,11 @@ pub static WORDS: &[Word] = &[
     ("+∞", 0, |_| Value::Float(f64::INFINITY)),
     ("-∞", 0, |_| Value::Float(f64::NEG_INFINITY)),
     ("neg", 1, |v| Value::Float(-float(&v[0]))),
-    ("ofWhole", 1, |v| whole(&v[0])),
+    ("of_whole", 1, |v| whole(&v[0])),
     ("wholes", 1, |v| mapped(&v[0], whole)),
     ("ratio", 2, |v| Value::Float(ratio(&v[0], &v[1]))),
-    ("tenBillionths", 1, |v| mapped(&v[0], ten_billionth)),
-    ("ofPattern", 1, |v| {
+    ("ten_billionths", 1, |v| mapped(&v[0], ten_billionth)),
+    ("of_pattern", 1, |v| {
         Value::Float(f64::from_bits(size(&v[0]) as u64))
     }),
     ("replicate", 2, |v| {
@@ -71,7 +71,7 @@ pub static WORDS: &[Word] = &[
     ("plainly", 5, |v| alone(false, v)),
     ("strictly", 5, |v| alone(true, v)),
     ("finds", 3, |v| finds(&v[0], &v[1], &v[2])),
-    ("runsOut", 1, |v| runs_out(&v[0])),
+    ("runs_out", 1, |v| runs_out(&v[0])),
     ("refuses", 2, |v| refuses(&v[0], &v[1])),
     ("resolves", 2, |v| {
         row(
@@ -80,13 +80,13 @@ pub static WORDS: &[Word] = &[
         )
     }),
     ("plain", 1, |v| stated(size(&v[0]), vec![])),
-    ("gapAt", 2, |v| stated(8, vec![size(&v[0]), size(&v[1])])),
-    ("Cusum.newOf", 2, |v| chart(true, v, Edition::First)),
-    ("Cusum.withParams", 4, |v| chart(false, v, Edition::First)),
+    ("gap_at", 2, |v| stated(8, vec![size(&v[0]), size(&v[1])])),
+    ("Cusum.new_of", 2, |v| chart(true, v, Edition::First)),
+    ("Cusum.with_params", 4, |v| chart(false, v, Edition::First)),
     ("First", 0, |_| Value::Edition(Edition::First)),
     ("Second", 0, |_| Value::Edition(Edition::Second)),
-    ("Ewma.newOf", 3, |v| chart(true, &v[..2], edition(&v[2]))),
-    ("Ewma.withParams", 5, |v| {
+    ("Ewma.new_of", 3, |v| chart(true, &v[..2], edition(&v[2]))),
+    ("Ewma.with_params", 5, |v| {
         chart(false, &v[..4], edition(&v[4]))
     }),
     ("None", 0, |_| Value::Side(Side::None)),
@@ -95,33 +95,33 @@ pub static WORDS: &[Word] = &[
     ("Both", 0, |_| Value::Side(Side::Both)),
     ("Upper", 0, |_| Value::Sum(Sum::Upper)),
     ("Lower", 0, |_| Value::Sum(Sum::Lower)),
-    ("sumsAre", 3, |v| sums_are(&v[0], &v[1], &v[2])),
-    ("averagesAre", 3, |v| averages_are(&v[0], &v[1], &v[2])),
-    ("sumsSignal", 4, |v| {
+    ("sums_are", 3, |v| sums_are(&v[0], &v[1], &v[2])),
+    ("averages_are", 3, |v| averages_are(&v[0], &v[1], &v[2])),
+    ("sums_signal", 4, |v| {
         signal(|c, xs, room| Call::CusumPoints(c, xs, room), v)
     }),
-    ("averagesSignal", 4, |v| {
+    ("averages_signal", 4, |v| {
         signal(|c, xs, room| Call::EwmaPoints(c, xs, room), v)
     }),
-    ("sumsRefuse", 4, |v| {
+    ("sums_refuse", 4, |v| {
         let room = vec![LENT_SUMS; size(&v[2])];
         let call = Call::Cusum(charted(&v[0]), floats(&v[1]), room.clone());
         row(call, Outcome::Sums(refused(&v[3]), room))
     }),
-    ("averagesRefuse", 4, |v| {
+    ("averages_refuse", 4, |v| {
         let room = vec![LENT_AVERAGE; size(&v[2])];
         let call = Call::Ewma(charted(&v[0]), floats(&v[1]), room.clone());
         row(call, Outcome::Averages(refused(&v[3]), room))
     }),
     ("hears", 4, |v| hear(v, Said::Answered(vec![size(&v[3])]))),
-    ("refusesToHear", 4, |v| hear(v, refused(&v[3]))),
+    ("refuses_to_hear", 4, |v| hear(v, refused(&v[3]))),
     ("ball", 2, |v| Value::Ball(ball(size(&v[0]), float(&v[1])))),
-    ("ballsFrom", 2, |v| balls_from(size(&v[0]), size(&v[1]))),
+    ("balls_from", 2, |v| balls_from(size(&v[0]), size(&v[1]))),
     ("keeps", 3, |v| {
         let call = Call::Lose(one_ball(&v[0]), balls(&v[1]));
         row(call, Outcome::Losing(balls(&v[2])))
     }),
-    ("logarithmIs", 2, |v| {
+    ("logarithm_is", 2, |v| {
         let [x, result] = [0, 1].map(|i| f64::from_bits(size(&v[i]) as u64));
         let call = Call::Elementary(Function::Ln, x, 0);
         row(call, Outcome::Values(vec![result]))

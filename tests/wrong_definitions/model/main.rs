@@ -61,8 +61,8 @@ fn rows(root: &Path) -> Vec<Row> {
         fs::read_to_string(&path).unwrap_or_else(|e| panic!("{}: {e}", path.display()))
     };
     let texts = [file("Marked.antt"), file("Further.antt")];
-    let mut rows = rows_of(&[&texts[0]], "markedRows");
-    rows.extend(rows_of(&[&texts[0], &texts[1]], "furtherRows"));
+    let mut rows = rows_of(&[&texts[0]], "marked_rows");
+    rows.extend(rows_of(&[&texts[0], &texts[1]], "further_rows"));
     rows
 }
 
