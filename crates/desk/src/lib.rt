@@ -1,4 +1,4 @@
-// What programs in other languages call: the static library that `rt staticlib desk` writes defines
+// What programs in other languages call: the static library that `rt lib` writes here defines
 // each function here under its plain name, by C's conventions. `include/overbrindle.h` declares them.
 //
 // None asks anything of its caller. A contract names the definitions that what is returned, every
