@@ -72,6 +72,20 @@ function note_word(word,    alias) {
     if (word != of) note_use(FILENAME, word)
 }
 
+# a path of the code, as an attribute cites a law or a definition: crate::proofs::ChannelLaws::fit
+function note_path(path,    parts, count, file, i) {
+    count = split(path, parts, /::/)
+    if (count < 4 || parts[2] !~ /^(proofs|specs)$/) return
+    if (parts[1] == "crate") {
+        parts[1] = FILENAME
+        sub(/^crates\//, "", parts[1])
+        sub(/\/.*/, "", parts[1])
+    }
+    file = "crates/" parts[1]
+    for (i = 2; i < count; i++) file = file "/" parts[i]
+    used[file ".antt", parts[count]] = 1
+}
+
 FNR == 1 { of = "" }
 
 FILENAME !~ /^crates\// {
@@ -115,7 +129,8 @@ FILENAME ~ /[.]antt$/ {
 {
     count = split($0, words, /[][(){};,\\" ]+/)
     for (i = 1; i <= count; i++)
-        if (words[i] != "") note_word(words[i])
+        if (words[i] ~ /::(proofs|specs)::/) note_path(words[i])
+        else if (words[i] != "") note_word(words[i])
 }
 
 END {

@@ -1,33 +1,19 @@
--- Laws of the walk back: a predecessor in the code's words, one turn of the walk, how many turns there are, and which of the indices it reads. Assumes nothing.
-use Prim.Native.Nat.{ℕ, zero, suc, ◌+◌, ◌≤◌, ◌<◌}
+-- Laws of the walk back: one turn of it, how many turns there are, which of the indices it reads, and the cuts in the order in which it meets them. Assumes nothing.
+use Prim.Native.Nat.{ℕ, zero, suc, ◌≤◌, ◌<◌}
 use mathlib.Core.Path.{◌≡◌, refl, sym, ap, ◌∙◌}
 use mathlib.Core.Bool.{Bool, true, false, cond}
 use mathlib.Core.List.{List, [], ◌∷◌, ◌++◌}
 use native.Mathlib.Omega.{arith}
 use native.Mathlib.Nat.{not-suc-le-zero, le_of_suc-le-suc, le_of_lt}
-use borrow.Author.Tests.{lt-ltb, le-ltb, ltb-true}
+use borrow.Author.Tests.{ltb-true}
 use lib.Dec.{ltb}
-use lib.ListN.{length, get_or, length-append, get_or-append, get_or-eq_default}
+use lib.ListN.{length, get_or, length-append, get_or-append}
+use Rattle.std.specs.Prelude.{reverse}
+use Rattle.std.proofs.lemmas.List.{reverse-append, reverse-reverse, length-reverse}
 use Rattle.backtrack.specs.Cuts.{predecessor_of, back_from, cuts_of}
+use Rattle.backtrack.specs.Inner.Walk.{cuts_back}
 
 -- ---- a predecessor
-pub predecessor_is : (last : List ℕ) (t tau : ℕ) → tau ≡ get_or last t 0 → tau < t → tau ≡ predecessor_of last t
-unfolding predecessor_of
-predecessor_is last t tau e h = rw (← e) (rw (lt-ltb tau t h) refl)
-
--- a predecessor `tau` that is not below `t` does not count
-pub predecessor_not_below : (last : List ℕ) (t tau : ℕ) → tau ≡ get_or last t 0 → t ≤ tau → 0 ≡ predecessor_of last t
-unfolding predecessor_of
-predecessor_not_below last t tau e h = rw (← e) (rw (le-ltb tau t h) refl)
-
-pub predecessor_past : (last : List ℕ) (t : ℕ) → length last ≤ t → 0 ≡ predecessor_of last t
-unfolding predecessor_of
-predecessor_past last t h = rw (get_or-eq_default last 0 {n = t} h) (zero_either (ltb 0 t))
-  where
-    zero_either : (b : Bool) → ◌≡◌ {A = ℕ} 0 (cond b 0 0)
-    zero_either true = refl
-    zero_either false = refl
-
 pub predecessor_below : (last : List ℕ) (t : ℕ) → 0 < t → predecessor_of last t < t
 unfolding predecessor_of
 predecessor_below last t h = go (ltb (get_or last t 0) t) refl
@@ -87,9 +73,6 @@ unfolding back_from
 left_turn last zero h = absurd (not-suc-le-zero h)
 left_turn last (suc t) h = let p = predecessor_at_most last t in ap (λ (cs : List ℕ). cs ++ (suc t ∷ [])) (back_bound t (predecessor_of last (suc t)) last (predecessor_of last (suc t)) p (omega arith))
 
-pub left_turn_length : (last : List ℕ) (t : ℕ) → 0 < t → length (left_from last t) ≡ length (left_from last (predecessor_of last t)) + 1
-left_turn_length last t h = ap length (left_turn last t h) ∙ length-append (left_from last (predecessor_of last t)) (t ∷ [])
-
 pub cuts_few : (last : List ℕ) (n : ℕ) → length (cuts_of last n) ≤ n
 unfolding cuts_of
 cuts_few last n = back_few n last (predecessor_of last n)
@@ -120,3 +103,41 @@ cuts_front last rest (suc n) h =
     let p = predecessor_at_most last n in
     ap (back_from (suc n) (last ++ rest)) (predecessor_front last rest (suc n) h)
     ∙ back_front (suc n) last rest (predecessor_of last (suc n)) (omega arith)
+
+-- ---- the walk as the code goes it: its cuts, highest first
+cuts_turn : (last : List ℕ) (t : ℕ) → 0 < predecessor_of last t → cuts_of last t ≡ cuts_of last (predecessor_of last t) ++ (predecessor_of last t ∷ [])
+cuts_turn last t h =
+    left_all last t (predecessor_of last t) refl
+    ∙ left_turn last (predecessor_of last t) h
+    ∙ ap (λ (cs : List ℕ). cs ++ (predecessor_of last t ∷ [])) (sym (left_all last (predecessor_of last t) (predecessor_of last (predecessor_of last t)) refl))
+
+pub back_turn : (last : List ℕ) (t p : ℕ) → p ≡ predecessor_of last t → 0 < p → cuts_back last t ≡ p ∷ cuts_back last p
+unfolding cuts_back
+back_turn last t p e h = rw e (ap reverse (cuts_turn last t (rw e at h)) ∙ reverse-append (cuts_of last (predecessor_of last t)) (predecessor_of last t ∷ []))
+
+no_cuts : (last : List ℕ) (t : ℕ) → 0 ≡ predecessor_of last t → cuts_of last t ≡ []
+no_cuts last t e = left_all last t 0 e ∙ left_none last
+
+no_predecessor : (last : List ℕ) → 0 ≡ predecessor_of last 0
+no_predecessor last = omega (arith, predecessor_le last 0)
+
+pub back_end : (last : List ℕ) (t : ℕ) → predecessor_of last t ≡ 0 → cuts_back last t ≡ []
+unfolding cuts_back
+back_end last t e = ap reverse (no_cuts last t (sym e))
+
+pub back_over : (last : List ℕ) → cuts_back last 0 ≡ []
+unfolding cuts_back
+back_over last = ap reverse (no_cuts last 0 (no_predecessor last))
+
+-- as many as the cuts
+pub back_length : (last : List ℕ) (t : ℕ) → length (cuts_back last t) ≡ length (cuts_of last t)
+unfolding cuts_back
+back_length last t = length-reverse (cuts_of last t)
+
+pub back_at_most : (last : List ℕ) (t : ℕ) → length (cuts_back last t) ≤ t
+back_at_most last t = rw back_length (cuts_few last t)
+
+-- turned about they are the cuts
+pub back_cuts : (last : List ℕ) (t : ℕ) → reverse (cuts_back last t) ≡ cuts_of last t
+unfolding cuts_back
+back_cuts last t = reverse-reverse (cuts_of last t)

@@ -1,15 +1,15 @@
 -- Laws of the area that the cuts are written to: the last cut is written first, room enough, and that one outcome alone meets `Backtracked`. Assumes nothing.
-use Prim.Native.Nat.{ℕ, ◌+◌, ◌≤◌, ◌<◌}
+use Prim.Native.Nat.{ℕ, ◌≤◌}
 use mathlib.Core.Path.{◌≡◌, refl, sym, ap, ◌∙◌}
 use mathlib.Core.List.{List, [], ◌∷◌, ◌++◌}
-use native.Mathlib.Omega.{arith}
 use lib.ListN.{length, drop, set}
 use lib.Seq.{take_all, take-nil, drop-nil}
-use Rattle.backtrack.specs.Cuts.{predecessor_of, written}
+use Rattle.std.specs.Prelude.{reverse}
+use Rattle.std.proofs.lemmas.List.{reverse-append, length-reverse}
+use Rattle.backtrack.specs.Cuts.{written}
 use Rattle.backtrack.specs.Backtracked.{Backtracked}
-use Rattle.backtrack.proofs.WalkLaws.{left_from, left_none, left_turn, left_turn_length}
 
-written_none : (area : List ℕ) → written [] area ≡ area
+pub written_none : (area : List ℕ) → written [] area ≡ area
 unfolding written
 written_none area = rw (take-nil (length area)) refl
 
@@ -30,15 +30,12 @@ written_last (d ∷ cs) c (x ∷ area) =
     ∙ ap (λ (l : List ℕ). d ∷ l) (written_last cs c area)
     ∙ sym (written_one d x cs (set area (length cs) c))
 
--- one turn of the walk back writes the last of the cuts that are left, `t`, at the index `place`
-pub written_turn : (last area : List ℕ) (t tau place : ℕ) → 0 < t → tau ≡ predecessor_of last t → place + 1 ≡ length (left_from last t) → written (left_from last tau) (set area place t) ≡ written (left_from last t) area
-written_turn last area t tau place h e l =
-    let p : place ≡ length (left_from last (predecessor_of last t)) = omega (arith, left_turn_length last t h) in
-    rw (e, p) (sym (ap (λ (cs : List ℕ). written cs area) (left_turn last t h) ∙ written_last (left_from last (predecessor_of last t)) t area))
-
--- after the last turn nothing is left to write
-pub written_end : (last area : List ℕ) (t : ℕ) → t ≡ 0 → written (left_from last t) area ≡ area
-written_end last area t e = rw e (ap (λ (cs : List ℕ). written cs area) (left_none last) ∙ written_none area)
+-- one turn of the walk back, which has `cut` and then `rest` before it, writes the last of the cuts that are left
+pub written_turn : (rest : List ℕ) (cut : ℕ) (area : List ℕ) → written (reverse (cut ∷ rest)) area ≡ written (reverse rest) (set area (length rest) cut)
+written_turn rest cut area =
+    ap (λ (cs : List ℕ). written cs area) (reverse-append (cut ∷ []) rest)
+    ∙ written_last (reverse rest) cut area
+    ∙ ap (λ (place : ℕ). written (reverse rest) (set area place cut)) (length-reverse rest)
 
 -- ---- room enough
 pub written_room : (cs area : List ℕ) → length cs ≤ length area → written cs area ≡ cs ++ drop (length cs) area

@@ -1,3 +1,4 @@
 pub mod Cuts
 pub mod Backtracked
 pub mod Pieces
+pub mod Inner

@@ -4,13 +4,13 @@ use Prim.Native.Nat.{ℕ, ◌<◌}
 use native.Mathlib.Omega.{arith}
 use mathlib.Core.Bool.{Bool, true, false}
 use mathlib.Core.List.{List, [], ◌∷◌}
+use Rattle.std.specs.Prelude.{Result, Ok, Err}
 use Rattle.refusals.specs.Stated.{stated}
 use Rattle.refusals.specs.Tried.{tried}
 use Rattle.refusals.specs.Said.{Said, answered, refusing, said}
 use Rattle.refusals.proofs.Apart.{eight_is_gap, nine_is_pool}
 use Rattle.refusals.proofs.ValueLaws.{number_bounds}
 use Rattle.refusals.specs.declared.Refusal.{Refusal}
-use Rattle.refusals.specs.declared.Answer.{Answer}
 use Rattle.c_answers.specs.declared.Told.{Told}
 use Rattle.c_answers.specs.declared.Counted.{Counted}
 use Rattle.c_answers.specs.Told.{told_as, told_of, counted_as, counted_of}
@@ -33,10 +33,10 @@ result_counted ((true, r) ∷ ts) s count e = absurd (refusal_counted r count e)
 result_counted ((false, r) ∷ ts) s count e = result_counted ts s count e
 
 -- and the answer is that count
-pub count_told : (a : Answer) (count : ℕ) → counted_as 0 count ≡ counted_of (said a) → a ≡ Answer.Count count
+pub count_told : (a : Result ℕ Refusal) (count : ℕ) → counted_as 0 count ≡ counted_of (said a) → a ≡ Ok count
 unfolding told_of
-count_told (Answer.Count k) count e = ap Answer.Count (sym (ap (λ (t : Counted). t.count) e))
-count_told (Answer.Refused r) count e = absurd (refusal_counted r count e)
+count_told (Ok k) count e = ap Ok (sym (ap (λ (t : Counted). t.count) e))
+count_told (Err r) count e = absurd (refusal_counted r count e)
 
 -- ---- any other: the refusal with that number, of those that were tried
 pub number_told : (ts : List (Bool × Refusal)) (values : List ℕ) (number count : ℕ) → 0 < number → counted_as number count ≡ counted_of (tried refusing ts (answered values))

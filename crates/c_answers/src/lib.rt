@@ -13,14 +13,14 @@ ghost use Rattle.refusals.specs.Said.{answered, refusing, said};
 ghost use Rattle.charts.specs.Hearing.{heard_as};
 ghost use Rattle.c_answers.specs.Told.{told_of, briefly, counted_of, spread_told, piece_of};
 
-use charts::Heard;
-use piece::{Spread, Summarised};
-use refusals::{Answer, Refusal};
+use piece::PieceSummary;
+use refusals::Refusal;
 pub use run_lengths::run_length;
 
 // An answer that says at most one whole number: `number` is 0 or the refusal's, `count` that whole
-// number, and `channel` and `index` are those of the reading that refusal 8 names.
-#[derive(Clone, Copy)]
+// number, and `channel` and `index` are those of the reading that refusal 8 names. It is no `Result`, and
+// neither are the others here: they are what the C interface is told.
+#[derive(Clone, Copy, PartialEq, Eq, Debug)]
 pub struct Told {
     pub number: u32,
     pub count: usize,
@@ -29,13 +29,14 @@ pub struct Told {
 }
 
 // The same without the channel and the index.
-#[derive(Clone, Copy)]
+#[derive(Clone, Copy, PartialEq, Eq, Debug)]
 pub struct Counted {
     pub number: u32,
     pub count: usize,
 }
 
-// A piece's spread: `has` is 1, and `value` the spread; or both are 0 where there is none.
+// A piece's spread, as the C interface is told it: `has` is 1, and `value` the spread; or both are 0 where
+// there is none.
 #[derive(Clone, Copy)]
 struct ToldSpread {
     has: u32,
@@ -44,7 +45,7 @@ struct ToldSpread {
 
 // A piece's summary: `number` is 0 or the refusal's, and the others are the summary's values. Where there
 // is no spread `has_spread` is 0, and else 1.
-#[derive(Clone, Copy)]
+#[derive(Clone, Copy, PartialEq, Debug)]
 pub struct ToldPiece {
     pub number: u32,
     pub length: usize,
@@ -54,6 +55,7 @@ pub struct ToldPiece {
 }
 
 // What is told of an answer that says `count`.
+#[tactic(auto, unfolding(crate::specs::Told::told_of))]
 fn result(count: usize) -> Told
     ensures { result ≡ told_of (answered (count ∷ [])) }
 {
@@ -77,12 +79,12 @@ pub fn refused(refusal: Refusal) -> Told
     ensures { result ≡ told_of (refusing refusal) }
 {
     let number = number_of(refusal);
-    let values = refusal.values();
+    let (channel, index) = refusal.values().unwrap_or((0, 0));
     Told {
         number,
         count: 0,
-        channel: values.first,
-        index: values.second,
+        channel,
+        index,
     }
 }
 
@@ -97,44 +99,42 @@ fn brief(told: Told) -> Counted
 }
 
 // What is told of `answer`: how many records or indices were written, or the refusal.
-pub fn answered(answer: Answer) -> Counted
+pub fn answered(answer: Result<usize, Refusal>) -> Counted
     ensures { result ≡ counted_of (said answer) }
 {
     match answer {
-        Answer::Count(count) => brief(result(count)),
-        Answer::Refused(refusal) => brief(refused(refusal)),
+        Ok(count) => brief(result(count)),
+        Err(refusal) => brief(refused(refusal)),
     }
 }
 
 // What is told of `answer`: the reading at which a level was heard, 0 where it was not, or the refusal.
-pub(crate) fn heard(answer: Heard) -> Counted
+pub(crate) fn heard(answer: Result<Option<usize>, Refusal>) -> Counted
     ensures { result ≡ counted_of (heard_as answer) }
 {
     match answer {
-        Heard::At(reading) => brief(result(reading)),
-        Heard::NotHeard => brief(result(0)),
-        Heard::Refused(refusal) => brief(refused(refusal)),
+        Ok(reading) => brief(result(reading.unwrap_or(0))),
+        Err(refusal) => brief(refused(refusal)),
     }
 }
 
 // What is told of `spread`: that there is one and its value, or that there is none.
-fn spread_told(spread: Spread) -> ToldSpread
+fn spread_told(spread: Option<f64>) -> ToldSpread
     ensures { result ≡ spread_told spread }
 {
     match spread {
-        Spread::Absent => ToldSpread { has: 0, value: 0.0 },
-        Spread::Of(value) => ToldSpread { has: 1, value },
+        None => ToldSpread { has: 0, value: 0.0 },
+        Some(value) => ToldSpread { has: 1, value },
     }
 }
 
 // What is told of `answer`: the summary's values, or the refusal's number with zeros.
-pub fn piece(answer: Summarised) -> ToldPiece
+pub fn piece(answer: Result<PieceSummary, Refusal>) -> ToldPiece
     ensures { result ≡ piece_of answer }
 {
     match answer {
-        Summarised::Piece(summary) => {
-            let spread = summary.spread;
-            let told = spread_told(spread);
+        Ok(summary) => {
+            let told = spread_told(summary.spread);
             ToldPiece {
                 number: 0,
                 length: summary.length,
@@ -143,7 +143,7 @@ pub fn piece(answer: Summarised) -> ToldPiece
                 spread: told.value,
             }
         }
-        Summarised::Refused(refusal) => ToldPiece {
+        Err(refusal) => ToldPiece {
             number: number_of(refusal),
             length: 0,
             mean: 0.0,

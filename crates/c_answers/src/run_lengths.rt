@@ -1,18 +1,23 @@
 // The run length of a CUSUM chart, asked for in numbers.
 ghost use Rattle.std.specs.Prelude.{◌≡◌};
-ghost use Rattle.c_answers.specs.Told.{counted_of, asked_sum, run_length_of};
+ghost use Rattle.c_answers.specs.Told.{counted_of, sum_told, run_length_of};
 
 use crate::{Counted, heard};
-use charts::{Heard, Sum};
+use charts::Sum;
 use cusum::Cusum;
 use refusals::Refusal;
 
-// The sum that the number `asked` stands for: 0 is the upper, any other number the lower.
+// The sum that the number `asked` stands for, 0 the upper and 1 the lower; refusal 10 for another number.
+// Not a `TryFrom`: the number is C's, and `Sum` is of a crate that knows none of them.
 #[tactic(auto, unfolding(crate::specs::Told::asked_sum))]
-fn sum_of(asked: u32) -> Sum
-    ensures { result ≡ asked_sum asked }
+fn sum_of(asked: u32) -> Result<Sum, Refusal>
+    ensures { result ≡ sum_told asked }
 {
-    if asked == 0 { Sum::Upper } else { Sum::Lower }
+    match asked {
+        0 => Ok(Sum::Upper),
+        1 => Ok(Sum::Lower),
+        _ => Err(Refusal::Form),
+    }
 }
 
 // The reading at which a fresh chart with the settings of `chart` first hears `level` by the sum
@@ -21,8 +26,8 @@ fn sum_of(asked: u32) -> Sum
 pub fn run_length(chart: Cusum, level: f64, asked: u32) -> Counted
     ensures { result ≡ counted_of (run_length_of chart level asked) }
 {
-    if asked < 2 {
-        return heard(chart.run_length(level, sum_of(asked)));
+    match sum_of(asked) {
+        Ok(sum) => heard(chart.run_length(level, sum)),
+        Err(refusal) => heard(Err(refusal)),
     }
-    heard(Heard::Refused(Refusal::Form))
 }

@@ -7,13 +7,12 @@ use mathlib.Core.List.{List, [], ◌∷◌, ◌++◌}
 use lib.Dec.{ltb}
 use lib.ListN.{get_or}
 use lib.Ieee.{Float}
+use Rattle.std.specs.Prelude.{Result, Ok, Some}
+use Rattle.refusals.specs.declared.Refusal.{Refusal}
 use Rattle.floats.specs.Finite.{finite}
 use Rattle.refusals.specs.Said.{answered}
-use Rattle.refusals.specs.declared.Answer.{Answer}
-use Rattle.refusals.specs.declared.Refusal.TheVariants as Refusal
 use Rattle.charts.specs.Among.{Among}
 use Rattle.cusum.specs.declared.Cusum.{Cusum}
-use Rattle.charts.specs.declared.Heard.TheVariants as Heard
 use Rattle.charts.specs.Hearing.{heard_as}
 use Rattle.cusum.specs.Chart.{tests_of, record_at, signalled}
 use Rattle.cusum.specs.RunLength.{heard, run_length}
@@ -30,7 +29,7 @@ use Rattle.c_charts.proofs.SideArrays.{cusum_told, cusum_side, facing_number, fa
 
 -- ---- what the number 0 tells
 -- a run length
-told_heard : (c : Cusum) (v : Float) (asked n : ℕ) → counted_as 0 n ≡ counted_of (run_length_of c v asked) → 0 < n → heard_as (Heard.At n) ≡ run_length c v (asked_sum asked)
+told_heard : (c : Cusum) (v : Float) (asked n : ℕ) → counted_as 0 n ≡ counted_of (run_length_of c v asked) → 0 < n → heard_as (Ok (Some n)) ≡ run_length c v (asked_sum asked)
 unfolding run_length_of run_length told_of
 told_heard c v asked n e h =
     let l = heard c v (asked_sum asked) in
@@ -56,4 +55,4 @@ module _ (c : Cusum) (v : Float) (asked n : ℕ) (told_at : counted_as 0 n ≡ c
   pub points_have : (entry exit : List ℕ) (count : ℕ) → ◌≡◌ {A = Counted × List ℕ} (counted_as 0 count, exit) (told_left (signalled c xs entry)) → Among exit count (p + d)
   points_have entry exit count a =
       let answer = count_told (signalled c xs entry).0 count (ap (λ (o : Counted × List ℕ). o.0) a) in
-      signal_points_has c v (asked_sum asked) n (told_heard c v asked n told_at some) xs p d lasting entry exit count (ap₂ (λ (r : Answer) (l : List ℕ). (r, l)) (sym answer) (ap (λ (o : Counted × List ℕ). o.1) a))
+      signal_points_has c v (asked_sum asked) n (told_heard c v asked n told_at some) xs p d lasting entry exit count (ap₂ (λ (r : Result ℕ Refusal) (l : List ℕ). (r, l)) (sym answer) (ap (λ (o : Counted × List ℕ). o.1) a))

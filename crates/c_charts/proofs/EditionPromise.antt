@@ -6,10 +6,11 @@ use mathlib.Core.List.{List}
 use native.Mathlib.Omega.{arith}
 use lib.ListN.{length, get_or}
 use lib.Ieee.{Float, nan}
+use Rattle.std.specs.Prelude.{Result}
+use Rattle.refusals.specs.declared.Refusal.{Refusal}
 use Rattle.floats.specs.Finite.{finite}
 use Rattle.refusals.specs.Tried.{count_of}
 use Rattle.refusals.specs.Said.{said}
-use Rattle.refusals.specs.declared.Answer.{Answer}
 use Rattle.charts.specs.Answers.{admitted_as}
 use Rattle.charts.specs.Outcomes as Outcomes
 use Rattle.charts.specs.Runs.{column}
@@ -37,12 +38,12 @@ module _ (asked : EwmaSettings) (e : is_edition asked.edition ≡ false) (xs : L
   pub arrays_refused : (ewma ucl lcl : List Float) (side index : List ℕ) → ◌≡◌ {A = Arrays} (ewma_arrays asked xs ewma ucl lcl side index) (counted_as 10 0, ewma, ucl, lcl, side, index)
   unfolding told_of
   arrays_refused ewma ucl lcl side index =
-      ap (λ (r : Answer). let shown = records (chart_of asked) xs (count_of r) in (counted_of (said r), column ewma_of shown ewma, column ucl_of shown ucl, column lcl_of shown lcl, column side_byte shown side, column index_of shown index))
+      ap (λ (r : Result ℕ Refusal). let shown = records (chart_of asked) xs (count_of r) in (counted_of (said r), column ewma_of shown ewma, column ucl_of shown ucl, column lcl_of shown lcl, column side_byte shown side, column index_of shown index))
       (other_answer asked e (length xs) (room_of ewma ucl lcl side index) (length xs))
 
   pub points_refused : (entry : List ℕ) → ◌≡◌ {A = Counted × List ℕ} (told_left (asked_points asked xs entry)) (counted_as 10 0, entry)
   unfolding told_of
-  points_refused entry = ap (λ (o : Answer × List ℕ). told_left o) (other_points asked e xs entry)
+  points_refused entry = ap (λ (o : Result ℕ Refusal × List ℕ). told_left o) (other_points asked e xs entry)
 
 -- ---- a series without gaps
 module _ (target sigma lambda factor : Float) (xs : List Float) (g : Gapless xs (length xs)) where

@@ -6,3 +6,4 @@ pub mod SideArrays
 pub mod CusumPromise
 pub mod SettingPromise
 pub mod EditionPromise
+pub mod WalkLaws

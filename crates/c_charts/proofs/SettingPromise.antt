@@ -7,12 +7,12 @@ use native.Mathlib.Omega.{arith}
 use lib.Dec.{ltb}
 use lib.ListN.{length}
 use lib.Ieee.{Float}
+use Rattle.std.specs.Prelude.{Result}
 use Rattle.floats.specs.Finite.{finite}
 use Rattle.refusals.specs.Stated.{stated}
 use Rattle.refusals.specs.Tried.{tried}
 use Rattle.refusals.specs.Said.{answered, refusing, said}
 use Rattle.refusals.specs.declared.Refusal.{Refusal}
-use Rattle.refusals.specs.declared.Answer.{Answer}
 use Rattle.charts.specs.declared.InRange.{InRange}
 use Rattle.charts.specs.Settings.{setting_tests, Named}
 use Rattle.charts.specs.Answers.{size_tests, chart_answer}
@@ -55,8 +55,8 @@ unfolding Ewma.tests_of told_of
 asked_names asked n room count number k h other e = go (is_edition asked.edition) refl
   where
     go : (known : Bool) → is_edition asked.edition ≡ known → NamedBy (Ewma.in_range (chart_of asked)) number
-    go true t = chart_names (Ewma.in_range (chart_of asked)) n room count number k h (e ∙ ap (λ (r : Answer). counted_of (said r)) (known_answer asked t n room count))
-    go false t = absurd (other (ap (λ (told : Counted). told.number) (e ∙ ap (λ (r : Answer). counted_of (said r)) (other_answer asked t n room count))))
+    go true t = chart_names (Ewma.in_range (chart_of asked)) n room count number k h (e ∙ ap (λ (r : Result ℕ Refusal). counted_of (said r)) (known_answer asked t n room count))
+    go false t = absurd (other (ap (λ (told : Counted). told.number) (e ∙ ap (λ (r : Result ℕ Refusal). counted_of (said r)) (other_answer asked t n room count))))
 
 pub ewma_arrays_name : (asked : EwmaSettings) (xs ewma ucl lcl ewma' ucl' lcl' : List Float) (side index side' index' : List ℕ) (number count : ℕ) → 0 < number → (number ≡ 10 → ⊥)
     → ◌≡◌ {A = Counted × List Float × List Float × List Float × List ℕ × List ℕ} (counted_as number count, ewma', ucl', lcl', side', index') (EwmaColumns.ewma_arrays asked xs ewma ucl lcl side index) → NamedBy (Ewma.in_range (chart_of asked)) number

@@ -7,11 +7,11 @@ use mathlib.Core.Logic.{inl, inr}
 use native.Mathlib.Omega.{arith}
 use lib.ListN.{length, get_or}
 use lib.Ieee.{Float, nan}
+use Rattle.std.specs.Prelude.{Ok}
 use Rattle.floats.specs.Finite.{finite}
 use Rattle.refusals.specs.Tried.{passed, count_of}
 use Rattle.refusals.specs.Said.{said}
 use Rattle.refusals.specs.declared.Refusal.{Refusal}
-use Rattle.refusals.specs.declared.Answer.{Answer}
 use Rattle.charts.specs.Answers.{admitted_as}
 use Rattle.charts.specs.Runs.{column}
 use Rattle.charts.specs.Sides.{faces, side_number}
@@ -64,7 +64,7 @@ both_number Sided.Both e = refl
 -- ---- where 0 is told, the settings are in range and every reading has its record
 pub told_records : (ts : List (Bool × Refusal)) (n room count : ℕ) → counted_as 0 count ≡ counted_of (said (admitted_as ts n room)) → (passed ts ≡ true) × (count_of (admitted_as ts n room) ≡ n)
 told_records ts n room count e =
-    let answer : admitted_as ts n room ≡ Answer.Count count = count_told (admitted_as ts n room) count e in
+    let answer : admitted_as ts n room ≡ Ok count = count_told (admitted_as ts n room) count e in
     let counts = count_accepted ts n room n count (sym answer) in
     (counts.0, ap count_of answer ∙ counts.1)
 

@@ -1,7 +1,6 @@
 -- An EWMA chart asked for in plain numbers: its edition, and the tests of what is asked. Rules 5.7 and 8.1. Definitions only.
-use Rattle.std.specs.Prelude.{ℕ, Bool, not, ◌||◌, cond, List, ◌∷◌, eqb, length, Float}
+use Rattle.std.specs.Prelude.{ℕ, Bool, not, ◌||◌, cond, List, ◌∷◌, eqb, length, Float, Result, Option, Some, None}
 use Rattle.refusals.specs.declared.Refusal.{Refusal}
-use Rattle.refusals.specs.declared.Answer.{Answer}
 use Rattle.charts.specs.Outcomes as Outcomes
 use Rattle.ewma.specs.declared.Edition.{Edition}
 use Rattle.ewma.specs.declared.Edition.TheVariants.{First, Second}
@@ -19,12 +18,19 @@ edition_of n = cond (eqb n 1) First Second
 abbrev pub chart_of : EwmaSettings → Ewma
 chart_of asked = with_params asked.target asked.sigma asked.lambda asked.l_factor (edition_of asked.edition)
 
+-- the edition and the chart where the number is that of an edition
+abbrev pub edition_told : ℕ → Option Edition
+edition_told n = cond (is_edition n) (Some (edition_of n)) None
+
+abbrev pub chart_told : EwmaSettings → Option Ewma
+chart_told asked = cond (is_edition asked.edition) (Some (chart_of asked)) None
+
 -- 10 for any other number, and then the tests of the chart's settings
 abbrev pub asked_tests : EwmaSettings → List (Bool × Refusal)
 asked_tests asked = (not (is_edition asked.edition), Refusal.Form) ∷ tests_of (chart_of asked)
 
 -- what `signal_points` answers and leaves in the lent indices
-abbrev pub asked_points : EwmaSettings → List Float → List ℕ → Answer × List ℕ
+abbrev pub asked_points : EwmaSettings → List Float → List ℕ → Result ℕ Refusal × List ℕ
 asked_points asked xs entry = Outcomes.signalled (asked_tests asked) (length xs) (signalling (chart_of asked) xs (length xs)) entry
 
 -- the parts of the settings, as a call hands them over one by one

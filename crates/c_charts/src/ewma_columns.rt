@@ -2,9 +2,50 @@
 ghost use Rattle.std.specs.Prelude.{◌≡◌};
 ghost use Rattle.c_charts.specs.EwmaColumns.{ewma_arrays};
 
-use crate::editions::{chart_of, judge};
+use crate::columns::{Columns, walk};
+use crate::editions::chart_of;
 use crate::{EwmaSettings, shorter, shortest};
 use c_answers::Counted;
+use ewma::EwmaResult;
+use refusals::Refusal;
+
+#[derive(Drop)]
+struct EwmaColumns<'a> {
+    ewma: &'a mut [f64],
+    ucl: &'a mut [f64],
+    lcl: &'a mut [f64],
+    side: &'a mut [u8],
+    index: &'a mut [usize],
+}
+
+impl Columns<EwmaResult> for EwmaColumns<'_> {
+    ghost use Rattle.std.proofs.Common.{rules};
+    ghost use Rattle.c_charts.specs.Inner.EwmaPut.{room_in, put_in};
+
+    ghost room = { room_in };
+
+    ghost put = { put_in };
+
+    ghost keeps = { λ s i row. Prim.search rules };
+
+    fn room(&self) -> usize {
+        shortest(
+            shorter(self.ewma.len(), self.ucl.len()),
+            self.lcl.len(),
+            self.side.len(),
+            self.index.len(),
+        )
+    }
+
+    #[tactic(auto, unfolding(crate::specs::Columns::shorter, crate::specs::Columns::shortest))]
+    fn put(&mut self, i: usize, row: EwmaResult) {
+        self.ewma[i] = row.ewma;
+        self.ucl[i] = row.ucl;
+        self.lcl[i] = row.lcl;
+        self.side[i] = u8::from(row.side);
+        self.index[i] = row.index.0;
+    }
+}
 
 // Writes, for each reading of `data` on the chart that `asked` stands for, the statistic to `ewma`, the
 // limits to `ucl` and `lcl`, the number of its side to `side`, and the reading's index to `index`; the
@@ -20,28 +61,15 @@ pub fn ewma_analyze(
 ) -> Counted
     ensures { (result, ewma.new, ucl.new, lcl.new, side.new, index.new) ≡ ewma_arrays asked «data».now ewma.old ucl.old lcl.old side.old index.old }
 {
-    let room = shortest(
-        shorter(ewma.len(), ucl.len()),
-        lcl.len(),
-        side.len(),
-        index.len(),
-    );
-    let answer = judge(asked, data.len(), room);
-    let n = charts::count(answer);
-    let chart = chart_of(asked);
-    let mut state = ewma::start(chart);
-    let mut i = 0;
-    while i < n {
-        state = ewma::following(chart, data, i, state);
-        let shown = state.shown;
-        let at = shown.index;
-        let on = shown.side;
-        ewma[i] = shown.ewma;
-        ucl[i] = shown.ucl;
-        lcl[i] = shown.lcl;
-        side[i] = charts::side_number(on);
-        index[i] = at.0;
-        i += 1;
-    }
-    c_answers::answered(answer)
+    let Some(chart) = chart_of(asked) else {
+        return c_answers::answered(Err(Refusal::Form));
+    };
+    let mut columns = EwmaColumns {
+        ewma,
+        ucl,
+        lcl,
+        side,
+        index,
+    };
+    walk(chart, data, &mut columns)
 }

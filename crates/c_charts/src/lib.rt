@@ -7,6 +7,7 @@
 // `specs/Editions` says what they stand for (rule 8.1).
 #![tactic(auto)]
 
+mod columns;
 mod cusum_columns;
 mod editions;
 mod ewma_columns;
@@ -18,7 +19,7 @@ pub use cusum_columns::cusum_analyze;
 pub use editions::ewma_signal_points;
 pub use ewma_columns::ewma_analyze;
 
-// The settings of an EWMA chart, with its `edition` as a number.
+// The settings of an EWMA chart, with its `edition` as the number that the C interface gives.
 #[derive(Clone, Copy)]
 pub struct EwmaSettings {
     pub target: f64,
@@ -28,12 +29,14 @@ pub struct EwmaSettings {
     pub edition: u32,
 }
 
+#[tactic(auto, unfolding(crate::specs::Columns::shorter))]
 pub(crate) fn shorter(a: usize, b: usize) -> usize
     ensures { result ≡ shorter a b }
 {
-    if a < b { a } else { b }
+    a.min(b)
 }
 
+#[tactic(auto, unfolding(crate::specs::Columns::shortest))]
 pub(crate) fn shortest(a: usize, b: usize, c: usize, d: usize) -> usize
     ensures { result ≡ shortest a b c d }
 {

@@ -11,7 +11,7 @@ use lib.Ieee.{Float}
 use Rattle.logic.proofs.Laws.{clash}
 use Rattle.refusals.specs.Tried.{tried}
 use Rattle.refusals.specs.Said.{said}
-use Rattle.refusals.specs.declared.Answer.{Answer}
+use Rattle.std.specs.Prelude.{Result, Ok, Err}
 use Rattle.refusals.specs.declared.Refusal.{Refusal}
 use Rattle.refusals.proofs.TriedLaws.{no_count}
 use Rattle.readings.specs.Shape.{first_length}
@@ -28,59 +28,59 @@ use Rattle.c_answers.proofs.ReadBack.{refusal_told, gap_told, pool_told}
 use Rattle.c_search.specs.Asked.{known_numbers, cost_of, penalty_of, asked_tests, told_search}
 
 -- where the answer is not the refusal of a first test, the search is the one without it
-without : (r : Answer) (after before : Areas) (found : Option (List ℕ)) (first : Bool) (why : Refusal) (tests : List (Bool × Refusal)) → (r ≡ Answer.Refused why → ⊥)
-    → ◌≡◌ {A = Answer × Areas} (r, after) (outcome_by ((first, why) ∷ tests) found before) → ◌≡◌ {A = Answer × Areas} (r, after) (outcome_by tests found before)
+without : (r : Result ℕ Refusal) (after before : Areas) (found : Option (List ℕ)) (first : Bool) (why : Refusal) (tests : List (Bool × Refusal)) → (r ≡ Err why → ⊥)
+    → ◌≡◌ {A = Result ℕ Refusal × Areas} (r, after) (outcome_by ((first, why) ∷ tests) found before) → ◌≡◌ {A = Result ℕ Refusal × Areas} (r, after) (outcome_by tests found before)
 unfolding outcome_by tried
-without r after before found true why tests other e = absurd (other (ap (λ (o : Answer × Areas). o.0) e))
+without r after before found true why tests other e = absurd (other (ap (λ (o : Result ℕ Refusal × Areas). o.0) e))
 without r after before found false why tests other e = e
 
 -- what is told names the answer
-cuts_told : (r : Answer) (count : ℕ) → told_as 0 count 0 0 ≡ told_of (said r) → r ≡ Answer.Count count
+cuts_told : (r : Result ℕ Refusal) (count : ℕ) → told_as 0 count 0 0 ≡ told_of (said r) → r ≡ Ok count
 unfolding told_of
-cuts_told (Answer.Count n) count e = ap Answer.Count (sym (ap (λ (t : Told). t.count) e))
-cuts_told (Answer.Refused r) count e = absurd (refusal_told r count 0 0 e)
+cuts_told (Ok n) count e = ap Ok (sym (ap (λ (t : Told). t.count) e))
+cuts_told (Err r) count e = absurd (refusal_told r count 0 0 e)
 
-place_told : (r : Answer) (k i : ℕ) → told_as 8 0 k i ≡ told_of (said r) → r ≡ Answer.Refused (Refusal.NonFinite k i)
+place_told : (r : Result ℕ Refusal) (k i : ℕ) → told_as 8 0 k i ≡ told_of (said r) → r ≡ Err (Refusal.NonFinite k i)
 unfolding told_of
-place_told (Answer.Count n) k i e = absurd (let z : 8 ≡ 0 = ap (λ (t : Told). t.number) e in omega (arith, z))
-place_told (Answer.Refused r) k i e = ap Answer.Refused (gap_told r k i e)
+place_told (Ok n) k i e = absurd (let z : 8 ≡ 0 = ap (λ (t : Told). t.number) e in omega (arith, z))
+place_told (Err r) k i e = ap Err (gap_told r k i e)
 
-slots_told : (r : Answer) → told_as 9 0 0 0 ≡ told_of (said r) → r ≡ Answer.Refused Refusal.Pool
+slots_told : (r : Result ℕ Refusal) → told_as 9 0 0 0 ≡ told_of (said r) → r ≡ Err Refusal.Pool
 unfolding told_of
-slots_told (Answer.Count n) e = absurd (let z : 9 ≡ 0 = ap (λ (t : Told). t.number) e in omega (arith, z))
-slots_told (Answer.Refused r) e = ap Answer.Refused (pool_told r e)
+slots_told (Ok n) e = absurd (let z : 9 ≡ 0 = ap (λ (t : Told). t.number) e in omega (arith, z))
+slots_told (Err r) e = ap Err (pool_told r e)
 
 -- a refusal with a place, or for too few slots, is not refusal 10
-gap_no_form : (k i : ℕ) → Answer.Refused (Refusal.NonFinite k i) ≡ Answer.Refused Refusal.Form → ⊥
+gap_no_form : (k i : ℕ) → ◌≡◌ {A = Result ℕ Refusal} (Err (Refusal.NonFinite k i)) (Err Refusal.Form) → ⊥
 gap_no_form k i e = clash cc
 
-pool_no_form : Answer.Refused Refusal.Pool ≡ Answer.Refused Refusal.Form → ⊥
+pool_no_form : ◌≡◌ {A = Result ℕ Refusal} (Err Refusal.Pool) (Err Refusal.Form) → ⊥
 pool_no_form e = clash cc
 
 module _ (strict : Bool) (cost kind : ℕ) (value : Float) (m : ℕ) (run : List Float) (lengths : List ℕ) (before after : Areas) where
-  abbrev answered : Answer × Areas
+  abbrev answered : Result ℕ Refusal × Areas
   answered = outcome_by (asked_tests strict cost kind value m run lengths before) (found_in (cost_of cost) (penalty_of kind value) m run lengths before) before
 
   -- the search behind it, where its answer is not refusal 10
-  behind : (t : Told) (r : Answer) → (r ≡ Answer.Refused Refusal.Form → ⊥) → ◌≡◌ {A = Told × Areas} (t, after) (told_search strict cost kind value m run lengths before) → answered.0 ≡ r
-      → ◌≡◌ {A = Answer × Areas} (r, after) (detected strict (cost_of cost) (penalty_of kind value) m run lengths before)
+  behind : (t : Told) (r : Result ℕ Refusal) → (r ≡ Err Refusal.Form → ⊥) → ◌≡◌ {A = Told × Areas} (t, after) (told_search strict cost kind value m run lengths before) → answered.0 ≡ r
+      → ◌≡◌ {A = Result ℕ Refusal × Areas} (r, after) (detected strict (cost_of cost) (penalty_of kind value) m run lengths before)
   behind t r other a e =
       without r after before (found_in (cost_of cost) (penalty_of kind value) m run lengths before) (not (known_numbers cost kind)) Refusal.Form (tests_of strict (penalty_of kind value) m run lengths before) other
-      (ap₂ (λ (x : Answer) (y : Areas). (x, y)) (sym e) (ap (λ (o : Told × Areas). o.1) a))
+      (ap₂ (λ (x : Result ℕ Refusal) (y : Areas). (x, y)) (sym e) (ap (λ (o : Told × Areas). o.1) a))
 
   pub told_cuts : (count : ℕ) → ◌≡◌ {A = Told × Areas} (told_as 0 count 0 0, after) (told_search strict cost kind value m run lengths before)
       → (length (take count after.cuts) ≡ count) × Cut m (first_length lengths) (take count after.cuts)
   told_cuts count a =
-      let d = behind (told_as 0 count 0 0) (Answer.Count count) (no_count Refusal.Form count) a (cuts_told answered.0 count (ap (λ (o : Told × Areas). o.0) a)) in
+      let d = behind (told_as 0 count 0 0) (Ok count) (no_count Refusal.Form count) a (cuts_told answered.0 count (ap (λ (o : Told × Areas). o.0) a)) in
       (detected_count strict (cost_of cost) (penalty_of kind value) m run lengths before after count d, detected_cuts strict (cost_of cost) (penalty_of kind value) m run lengths before after count d)
 
   pub told_gap : (k i : ℕ) → ◌≡◌ {A = Told × Areas} (told_as 8 0 k i, after) (told_search strict cost kind value m run lengths before) → (strict ≡ true) × FirstGap run (length lengths) (first_length lengths) k i
   told_gap k i a =
-      let d = behind (told_as 8 0 k i) (Answer.Refused (Refusal.NonFinite k i)) (gap_no_form k i) a (place_told answered.0 k i (ap (λ (o : Told × Areas). o.0) a)) in
+      let d = behind (told_as 8 0 k i) (Err (Refusal.NonFinite k i)) (gap_no_form k i) a (place_told answered.0 k i (ap (λ (o : Told × Areas). o.0) a)) in
       let g = detected_gap strict (cost_of cost) (penalty_of kind value) m run lengths before after k i d in
       (g.is_strict, g.first)
 
   pub told_slots : ◌≡◌ {A = Told × Areas} (told_as 9 0 0 0, after) (told_search strict cost kind value m run lengths before) → length before.pool / slot_floats < first_length lengths
   told_slots a =
-      let d = behind (told_as 9 0 0 0) (Answer.Refused Refusal.Pool) pool_no_form a (slots_told answered.0 (ap (λ (o : Told × Areas). o.0) a)) in
+      let d = behind (told_as 9 0 0 0) (Err Refusal.Pool) pool_no_form a (slots_told answered.0 (ap (λ (o : Told × Areas). o.0) a)) in
       detected_slots strict (cost_of cost) (penalty_of kind value) m run lengths before after d

@@ -1,10 +1,9 @@
 -- A search in plain numbers: which numbers stand for which settings, and what is told and left. Rules 8.1 and 8.2. Definitions only.
-use Rattle.std.specs.Prelude.{ℕ, Bool, not, ◌&&◌, cond, List, ◌∷◌, ltb, eqb, Float}
+use Rattle.std.specs.Prelude.{ℕ, Bool, not, ◌&&◌, cond, List, ◌∷◌, Result, ltb, eqb, Float}
 use Rattle.refusals.specs.declared.Refusal.{Refusal}
 use Rattle.costs.specs.declared.CostFunction.{CostFunction}
 use Rattle.costs.specs.declared.Penalty.{Penalty}
 use Rattle.refusals.specs.Said.{said}
-use Rattle.refusals.specs.declared.Answer.{Answer}
 use Rattle.search_answer.specs.Outcome.{Areas, outcome_by, tests_of, found_in}
 use Rattle.c_answers.specs.declared.Told.{Told}
 use Rattle.c_answers.specs.Told.{told_of}
@@ -26,7 +25,7 @@ abbrev pub asked_tests : Bool → ℕ → ℕ → Float → ℕ → List Float �
 asked_tests strict cost kind value m run lengths before = (not (known_numbers cost kind), Refusal.Form) ∷ tests_of strict (penalty_of kind value) m run lengths before
 
 -- the outcome of a search, with its answer told in numbers
-abbrev pub told_outcome : Answer × Areas → Told × Areas
+abbrev pub told_outcome : Result ℕ Refusal × Areas → Told × Areas
 told_outcome outcome = (told_of (said outcome.0), outcome.1)
 
 -- what the search with these numbers comes to; all but the test of 10 is that of crate `search`

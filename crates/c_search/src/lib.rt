@@ -5,7 +5,7 @@
 // `search`, told in numbers by crate `c_answers`.
 #![tactic(auto)]
 
-ghost use Rattle.std.specs.Prelude.{◌≡◌};
+ghost use Rattle.std.specs.Prelude.{◌≡◌, cond, ltb, Some, None};
 ghost use Rattle.refusals.specs.Said.{said};
 ghost use Rattle.search_answer.specs.Outcome.{areas};
 ghost use Rattle.c_answers.specs.Told.{told_of};
@@ -13,51 +13,55 @@ ghost use Rattle.c_search.specs.Asked.{known_numbers, cost_of, penalty_of, told_
 
 use c_answers::Told;
 use costs::{CostFunction, Penalty};
-use refusals::{Answer, Refusal};
+use refusals::Refusal;
 use search::find_cuts;
 
-// Whether `cost` and `penalty_kind` are numbers that stand for a setting.
-fn known(cost: u32, penalty_kind: u32) -> bool
-    ensures { result ≡ known_numbers cost penalty_kind }
+// The cost function that the number `cost` stands for: 0 is L2, 1 Normal, and no other number is one.
+#[tactic(auto, unfolding(crate::specs::Asked::cost_of))]
+fn cost_of(cost: u32) -> Option<CostFunction>
+    ensures { result ≡ cond (ltb cost 2) (Some (cost_of cost)) None }
 {
-    if cost < 2 { penalty_kind < 2 } else { false }
-}
-
-// The cost function that the number `cost` stands for: 0 is L2, any other number Normal.
-fn cost_of(cost: u32) -> CostFunction
-    ensures { result ≡ cost_of cost }
-{
-    if cost == 0 {
-        CostFunction::L2
-    } else {
-        CostFunction::Normal
+    match cost {
+        0 => Some(CostFunction::L2),
+        1 => Some(CostFunction::Normal),
+        _ => None,
     }
 }
 
-// The penalty that the number `penalty_kind` stands for: 0 is BIC, any other number the custom value
-// `penalty`.
-fn penalty_of(penalty_kind: u32, penalty: f64) -> Penalty
-    ensures { result ≡ penalty_of penalty_kind penalty }
+// The penalty that the number `penalty_kind` stands for: 0 is BIC, 1 the custom value `penalty`, and no
+// other number is one.
+#[tactic(auto, unfolding(crate::specs::Asked::penalty_of))]
+fn penalty_of(penalty_kind: u32, penalty: f64) -> Option<Penalty>
+    ensures { result ≡ cond (ltb penalty_kind 2) (Some (penalty_of penalty_kind penalty)) None }
 {
-    if penalty_kind == 0 {
-        Penalty::Bic
-    } else {
-        Penalty::Custom(penalty)
+    match penalty_kind {
+        0 => Some(Penalty::Bic),
+        1 => Some(Penalty::Custom(penalty)),
+        _ => None,
     }
+}
+
+// The settings that these numbers stand for, and nothing where one of them stands for none.
+#[tactic(auto, unfolding(crate::specs::Asked::known_numbers))]
+fn settings(cost: u32, penalty_kind: u32, penalty: f64) -> Option<(CostFunction, Penalty)>
+    ensures { result ≡ cond (known_numbers cost penalty_kind) (Some (cost_of cost, penalty_of penalty_kind penalty)) None }
+{
+    Some((cost_of(cost)?, penalty_of(penalty_kind, penalty)?))
 }
 
 // What is told of `answer`: the number of cuts, or the refusal with its channel and index.
-fn told_cuts(answer: Answer) -> Told
+#[tactic(auto, unfolding(c_answers::specs::Told::told_of))]
+fn told_cuts(answer: Result<usize, Refusal>) -> Told
     ensures { result ≡ told_of (said answer) }
 {
     match answer {
-        Answer::Count(count) => Told {
+        Ok(count) => Told {
             number: 0,
             count,
             channel: 0,
             index: 0,
         },
-        Answer::Refused(refusal) => c_answers::refused(refusal),
+        Err(refusal) => c_answers::refused(refusal),
     }
 }
 
@@ -78,10 +82,10 @@ pub fn search(
 ) -> Told
     ensures { (result, areas cuts.new floats.new indices.new pool.new) ≡ told_search strict cost penalty_kind penalty min_segment_len readings.now lengths.now (areas cuts.old floats.old indices.old pool.old) }
 {
-    if known(cost, penalty_kind) {
-        return told_cuts(find_cuts(
-            cost_of(cost),
-            penalty_of(penalty_kind, penalty),
+    match settings(cost, penalty_kind, penalty) {
+        Some((cost, penalty)) => told_cuts(find_cuts(
+            cost,
+            penalty,
             min_segment_len,
             strict,
             readings,
@@ -90,7 +94,7 @@ pub fn search(
             floats,
             indices,
             pool,
-        ));
+        )),
+        None => c_answers::refused(Refusal::Form),
     }
-    c_answers::refused(Refusal::Form)
 }

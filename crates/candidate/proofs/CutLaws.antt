@@ -1,4 +1,4 @@
--- Laws of cutting: what each way through it comes to, and one ball more. Assumes nothing.
+-- Laws of cutting by one ball more. Assumes nothing.
 use Prim.Native.Nat.{ℕ, zero, suc, ◌+◌, ◌-◌, ◌≤◌, ◌<◌}
 use mathlib.Core.Bool.{true, false}
 use mathlib.Core.Path.{◌≡◌, refl, sym, ap, ◌∙◌}
@@ -7,28 +7,12 @@ use native.Mathlib.Omega.{arith}
 use native.Mathlib.Nat.{add-zero, add-suc}
 use native.Mathlib.Numerals.{add-one}
 use lib.Ieee.{Float}
-use Rattle.floats.specs.Numbers.{◌+ᶠ◌, ◌-ᶠ◌}
 use Rattle.areas.proofs.PartLaws.{tab_at}
 use Rattle.candidate.specs.declared.Candidate.{Candidate}
 use Rattle.candidate_balls.specs.declared.Ball.{Ball}
-use Rattle.candidate.specs.Boxes.{Span, ball_of, span_at, with_span, over_channels, along_each, gone}
+use Rattle.candidate.specs.Boxes.{span_at, gone}
 use Rattle.candidate.specs.Balls.{ball_at, held_at, held}
-use Rattle.candidate.specs.Cuts.{far2, cut_span, cut_by, cut_by_root, cut_rooted, cut_to}
-use Rattle.candidate.proofs.BoxLaws.{span_beside}
-
--- ---- one ball on two channels
-pub cut_two : (c d r2 : Float) (x : Candidate) {s u t v : Span} {g h : Float} {y r : Candidate} → s ≡ span_at x 0 → u ≡ span_at x 1 → g ≡ far2 s c → h ≡ far2 u d
-    → t ≡ cut_span s c r2 (g +ᶠ h -ᶠ g) → y ≡ with_span 0 t x → v ≡ cut_span u d r2 (g +ᶠ h -ᶠ h) → r ≡ with_span 1 v y → r ≡ cut_by 2 (ball_of c d r2) x
-unfolding cut_by over_channels along_each
-cut_two c d r2 x {s} {u} {t} {v} {g} {h} es eu eg eh et ey ev q = q ∙ (rw (ev, ey, et, ← es, ← eu, ← eg, ← eh, beside, ← eh) refl)
-  where
-    beside : span_at (with_span 0 (cut_span s c r2 (g +ᶠ h -ᶠ g)) x) 1 ≡ u
-    beside = span_beside (cut_span s c r2 (g +ᶠ h -ᶠ g)) x ∙ sym eu
-
--- ---- one ball on one channel, by its root
-pub cut_along : (c w r2 : Float) (x : Candidate) {y : Candidate} {s t : Span} → s ≡ span_at x 0 → t ≡ cut_by_root s c w → y ≡ with_span 0 t x → y ≡ cut_rooted (ball_of c w r2) x
-unfolding cut_rooted
-cut_along c w r2 x es et q = q ∙ (rw (et, es) refl)
+use Rattle.candidate.specs.Cuts.{cut_to}
 
 -- ---- one ball more
 pub ball_read : (area : List Float) (place n i : ℕ) → i < n → held_at area place i ≡ ball_at (held area place n) i

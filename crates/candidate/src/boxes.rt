@@ -1,11 +1,12 @@
 // The box, the ball that narrows it, and whether anything is left of it.
-ghost use Rattle.std.specs.Prelude.{◌≡◌};
-ghost use Rattle.candidate.specs.Boxes.{gap2, nothing, span_at, with_span, ball_of, restrict};
+ghost use Rattle.std.specs.Prelude.{◌≡◌, ℕ, ◌<◌, Float};
+ghost use Rattle.candidate_sides.specs.declared.Span.{Span};
+ghost use Rattle.candidate.specs.Boxes.{gap2, nothing, gone, span_at, with_span, over_channels, along_each, restrict};
 ghost use Rattle.candidate.specs.Dominated.{is_dominated};
 
 use crate::Candidate;
 use candidate_balls::Ball;
-use candidate_sides::{Span, narrowed};
+use candidate_sides::Span;
 use floats::max;
 
 // The square of the distance from `c` to `span`.
@@ -26,92 +27,89 @@ fn nothing() -> Span
     }
 }
 
-// The side of the box along the first channel, and along the second.
-pub(crate) fn first(candidate: Candidate) -> Span
-    ensures { result ≡ span_at candidate 0 }
+// Whether nothing is left of `span`.
+pub(crate) fn gone(span: Span) -> bool
+    ensures { result ≡ gone span }
 {
-    Span {
-        lo: candidate.lo[0],
-        hi: candidate.hi[0],
-    }
+    span.hi < span.lo
 }
 
-pub(crate) fn second(candidate: Candidate) -> Span
-    ensures { result ≡ span_at candidate 1 }
+// The sum of `g` over the channels; any number of them but 1 counts as 2.
+#[tactic(auto, unfolding(crate::specs::Boxes::over_channels))]
+pub(crate) fn over_channels<F: Fn(usize) -> f64>(channels: usize, g: F) -> f64
+    requires { (k : ℕ) → k < 2 → F.pre g k }
+    ensures { (h : ℕ → Float) → ((k : ℕ) (r : Float) → k < 2 → F.post g k r → r ≡ h k) → result ≡ over_channels channels h }
 {
-    Span {
-        lo: candidate.lo[1],
-        hi: candidate.hi[1],
-    }
-}
-
-// The box with `span` for its side along the first channel, and along the second.
-pub(crate) fn with_first(mut candidate: Candidate, span: Span) -> Candidate
-    ensures { result ≡ with_span 0 span candidate }
-{
-    candidate.lo[0] = span.lo;
-    candidate.hi[0] = span.hi;
-    candidate
-}
-
-pub(crate) fn with_second(mut candidate: Candidate, span: Span) -> Candidate
-    ensures { result ≡ with_span 1 span candidate }
-{
-    candidate.lo[1] = span.lo;
-    candidate.hi[1] = span.hi;
-    candidate
+    if channels == 1 { g(0) } else { g(0) + g(1) }
 }
 
 impl Candidate {
-    // `restrict` on one channel, by the ball of the centre `c` and the square `r2`.
-    fn restrict_one(self, c: f64, r2: f64) -> Candidate
-        ensures { result ≡ restrict 1 (ball_of c c r2) self }
+    // The side of the box along channel `k`.
+    #[tactic(auto, unfolding(crate::specs::Boxes::span_at))]
+    pub(crate) fn side(self, k: usize) -> Span
+        requires { k < 2 }
+        ensures { result ≡ span_at self k }
     {
-        let x = first(self);
-        let gap = gap2(x, c);
-        if (r2 < 0.0) | (r2 < gap) {
-            return with_first(self, nothing());
+        Span {
+            lo: self.lo[k],
+            hi: self.hi[k],
         }
-        with_first(self, narrowed(x, c, r2 - (gap - gap)))
     }
 
-    // `restrict` on two channels, by the ball of the centre `c`, `d` and the square `r2`.
-    fn restrict_two(self, c: f64, d: f64, r2: f64) -> Candidate
-        ensures { result ≡ restrict 2 (ball_of c d r2) self }
+    // The box with `span` for its side along channel `k`.
+    #[tactic(auto, unfolding(crate::specs::Boxes::with_span))]
+    pub(crate) fn with_side(mut self, k: usize, span: Span) -> Candidate
+        requires { k < 2 }
+        ensures { result ≡ with_span k span self }
     {
-        let x = first(self);
-        let y = second(self);
-        let gap = gap2(x, c);
-        let gap_beside = gap2(y, d);
-        let total = gap + gap_beside;
-        if (r2 < 0.0) | (r2 < total) {
-            return with_first(self, nothing());
+        self.lo[k] = span.lo;
+        self.hi[k] = span.hi;
+        self
+    }
+
+    // The box changed along each channel in its turn, by `step`.
+    #[tactic(auto, unfolding(crate::specs::Boxes::along_each))]
+    pub(crate) fn along_each<F: Fn(usize, Span) -> Span>(
+        self,
+        channels: usize,
+        step: F,
+    ) -> Candidate
+        requires { (k : ℕ) (s : Span) → k < 2 → F.pre step k s }
+        ensures { (h : ℕ → Span → Span) → ((k : ℕ) (s r : Span) → k < 2 → F.post step k s r → r ≡ h k s) → result ≡ along_each channels h self }
+    {
+        let changed = self.with_side(0, step(0, self.side(0)));
+        if channels == 1 {
+            return changed;
         }
-        let narrow = with_first(self, narrowed(x, c, r2 - (total - gap)));
-        with_second(narrow, narrowed(y, d, r2 - (total - gap_beside)))
+        changed.with_side(1, step(1, changed.side(1)))
     }
 
     // Narrows the box to the smallest box around what it shares with `ball`. Cost: a root for each
     // channel.
-    pub fn restrict(mut self, channels: usize, ball: Ball) -> Candidate
+    pub fn restrict(self, channels: usize, ball: Ball) -> Candidate
         ensures { result ≡ restrict channels ball self }
     {
-        if channels == 1 {
-            self = self.restrict_one(ball.centre[0], ball.r2);
-            return self;
+        let total = over_channels(channels, |k| gap2(self.side(k), ball.centre[k]));
+        if (ball.r2 < 0.0) | (ball.r2 < total) {
+            return self.with_side(0, nothing());
         }
-        self = self.restrict_two(ball.centre[0], ball.centre[1], ball.r2);
-        self
+        self.along_each(channels, |k, side| {
+            side.narrowed(
+                ball.centre[k],
+                ball.r2 - (total - gap2(side, ball.centre[k])),
+            )
+        })
     }
 
     // Whether nothing is left of the box along one of the channels.
+    #[tactic(auto, unfolding(crate::specs::Dominated::is_dominated))]
     pub fn is_dominated(self, channels: usize) -> bool
         ensures { result ≡ is_dominated channels self }
     {
-        let first = self.hi[0] < self.lo[0];
+        let first = gone(self.side(0));
         if channels == 1 {
             return first;
         }
-        first | (self.hi[1] < self.lo[1])
+        first | gone(self.side(1))
     }
 }

@@ -1,12 +1,10 @@
 -- Laws of the losing balls in an area: the room, the narrowest, and the ways through `lose_inside`. Assumes nothing.
 use Prim.Native.Nat.{ℕ, zero, suc, ◌+◌, ◌-◌, ◌≤◌, ◌<◌}
-use mathlib.Core.Bool.{Bool, true, false, ◌&&◌, cond}
-use mathlib.Core.Path.{◌≡◌, refl, sym, ◌∙◌}
+use mathlib.Core.Bool.{Bool, true, false, cond}
+use mathlib.Core.Path.{◌≡◌, refl, ◌∙◌}
 use mathlib.Core.List.{List}
-use borrow.Author.Tests.{le-leb, lt-leb, leb-true, leb-false, lt-ltb, le-ltb}
+use borrow.Author.Tests.{leb-true, lt-ltb, le-ltb}
 use native.Mathlib.Omega.{arith}
-use native.Mathlib.Numerals.{add-one}
-use lib.Dec.{leb}
 use lib.ListN.{length, get_or}
 use lib.Ieee.{Float, nan}
 use Rattle.logic.proofs.Laws.{both}
@@ -16,26 +14,6 @@ use Rattle.candidate_balls.specs.declared.Ball.{Ball}
 use Rattle.candidate_balls.specs.Losing.{has_room, radius_at, narrowest_in, put_ball, copy_last, second_number, displaced, area_with, count_with, Lost}
 
 -- ---- the room
-pub room_rest : (size place count : ℕ) → count ≤ 64 → place ≤ size → leb 192 (size - place) ≡ has_room size place count
-unfolding has_room
-room_rest size place count h l = side (leb 192 (size - place)) refl ∙ (rw (le-leb count 64 h) refl)
-  where
-    side : (t : Bool) → leb 192 (size - place) ≡ t → leb 192 (size - place) ≡ leb (place + 192) size
-    side true e = e ∙ sym (le-leb (place + 192) size (omega (arith, leb-true 192 (size - place) e)))
-    side false e = e ∙ sym (lt-leb (place + 192) size (omega (arith, leb-false 192 (size - place) e)))
-
-pub room_short : (size place count : ℕ) → size < place → has_room size place count ≡ false
-unfolding has_room
-room_short size place count h = rw (lt-leb (place + 192) size (omega arith)) (never (leb count 64))
-  where
-    never : (t : Bool) → (t && false) ≡ false
-    never true = refl
-    never false = refl
-
-pub room_many : (size place count : ℕ) → 64 < count → has_room size place count ≡ false
-unfolding has_room
-room_many size place count h = rw (lt-leb count 64 h) refl
-
 pub room_fits : (size place count : ℕ) → has_room size place count ≡ true → (place + 192 ≤ size) × (count ≤ 64)
 unfolding has_room
 room_fits size place count e = let b = both _ _ e in (leb-true (place + 192) size b.1, leb-true count 64 b.0)
@@ -51,14 +29,20 @@ narrowest_within area place (suc n) = side (ahead (radius_at area place (suc n))
     side false h = omega arith
 
 -- one ball more
-module _ (area : List Float) (place i j : ℕ) (ej : j ≡ narrowest_in area place i) where
-  pub narrower : ahead (radius_at area place (i + 1)) (radius_at area place j) ≡ true → i + 1 ≡ narrowest_in area place (i + 1)
-  unfolding narrowest_in
-  narrower e = let e' = rw (ej, add-one) at e in rw (add-one, e') refl
+module _ (area : List Float) (place i j : ℕ) (some : 1 ≤ i) (ej : j ≡ narrowest_in area place (i - 1)) {b : Bool} (eb : b ≡ ahead (radius_at area place i) (radius_at area place j)) where
+  next : i + 1 - 1 ≡ suc (i - 1)
+  next = omega arith
 
-  pub not_narrower : ahead (radius_at area place (i + 1)) (radius_at area place j) ≡ false → j ≡ narrowest_in area place (i + 1)
+  same : suc (i - 1) ≡ i
+  same = omega arith
+
+  pub narrower : b ≡ true → i ≡ narrowest_in area place (i + 1 - 1)
   unfolding narrowest_in
-  not_narrower e = let e' = rw (ej, add-one) at e in rw (add-one, e') ej
+  narrower t = rw next (rw (same, ← ej, ← eb, t) refl)
+
+  pub not_narrower : b ≡ false → j ≡ narrowest_in area place (i + 1 - 1)
+  unfolding narrowest_in
+  not_narrower t = rw next (rw (same, ← ej, ← eb, t) refl)
 
 -- ---- one more for 64
 module _ (area : List Float) (place : ℕ) (c d r2 : Float) {i : ℕ} (ei : i ≡ narrowest_in area place 63) where
@@ -66,9 +50,9 @@ module _ (area : List Float) (place : ℕ) (c d r2 : Float) {i : ℕ} (ei : i �
   unfolding displaced
   displaced_not e = rw (← ei, e) refl
 
-  pub displaced_so : {k : Float} {y z : List Float} → (r2 ≤ᶠ radius_at area place i) ≡ false → y ≡ copy_last area place i → k ≡ d → z ≡ put_ball y place 63 c k r2 → z ≡ displaced area place c d r2
+  pub displaced_so : {k l m : Float} {y z : List Float} → (r2 ≤ᶠ radius_at area place i) ≡ false → y ≡ copy_last area place i → k ≡ c → l ≡ d → m ≡ r2 → z ≡ put_ball y place 63 k l m → z ≡ displaced area place c d r2
   unfolding displaced
-  displaced_so e ey ek ez = ez ∙ (rw (ek, ey, ← ei, e) refl)
+  displaced_so e ey ek el em ez = ez ∙ (rw (ek, el, em, ey, ← ei, e) refl)
 
 -- ---- the ways through `lose_inside`
 module _ {channels : ℕ} {area : List Float} {place count : ℕ} {b : Ball} where
@@ -80,10 +64,10 @@ module _ {channels : ℕ} {area : List Float} {place count : ℕ} {b : Ball} whe
     unfolding area_with count_with
     lost_empty e = record { left = rw (room, e) refl; said = rw (room, e) refl }
 
-    pub lost_more : {k : Float} {y : List Float} → (b.r2 ≤ᶠ +0) ≡ false → count < 64 → k ≡ second_number channels (get_or b.centre 1 nan) b.r2 → y ≡ put_ball area place count (get_or b.centre 0 nan) k b.r2
+    pub lost_more : {k l m : Float} {y : List Float} → (b.r2 ≤ᶠ +0) ≡ false → count < 64 → k ≡ get_or b.centre 0 nan → l ≡ second_number channels (get_or b.centre 1 nan) b.r2 → m ≡ b.r2 → y ≡ put_ball area place count k l m
         → Lost channels area y place count b (count + 1)
     unfolding area_with count_with
-    lost_more e h ek ey = record { left = ey ∙ (rw (ek, room, e, lt-ltb count 64 h) refl); said = rw (room, e, lt-ltb count 64 h) refl }
+    lost_more e h ek el em ey = record { left = ey ∙ (rw (ek, el, em, room, e, lt-ltb count 64 h) refl); said = rw (room, e, lt-ltb count 64 h) refl }
 
     pub lost_full : {y : List Float} → (b.r2 ≤ᶠ +0) ≡ false → 64 ≤ count → y ≡ displaced area place (get_or b.centre 0 nan) (second_number channels (get_or b.centre 1 nan) b.r2) b.r2 → Lost channels area y place count b count
     unfolding area_with count_with

@@ -1,5 +1,5 @@
 -- Laws of what a ball cuts from a span: a span with no end inside stays as it is, and what is not inside a wider reach is not inside. Assumes nothing.
-use Rattle.std.proofs.Common.{◌≡◌, Bool, true, false, cond, not, ◌||◌, T, sym, refl, subst, true≢false}
+use Rattle.std.proofs.Common.{◌≡◌, Bool, true, false, cond, not, ◌||◌, T, sym, refl, subst, true≢false, ◌∙◌}
 use mathlib.Core.Bool.{false≢true}
 use lib.Ieee.{Float, nan, inf, fin, binary64, add, sub, neg}
 use lib.Ieee.Fits.{and_i, and_l, and_r}
@@ -9,6 +9,7 @@ use Rattle.floats.specs.Numbers.{◌+ᶠ◌, ◌-ᶠ◌, ◌≤ᶠ◌}
 use Rattle.floats.specs.Finite.{finite}
 use Rattle.candidate_sides.specs.declared.Span.{Span}
 use Rattle.candidate_sides.specs.Slabs.{far2, inside, moved, cut_ends, cut_by_root}
+use Rattle.candidate_sides.specs.Inner.Slab.{about, within, cut_by}
 
 pub ends_outside : (s : Span) (c w : Float) → inside c w s.lo ≡ false → inside c w s.hi ≡ false → cut_ends s c w ≡ s
 unfolding cut_ends moved
@@ -19,13 +20,26 @@ neither false false r = (refl, refl)
 neither false true r = absurd (true≢false r)
 neither true b r = absurd (true≢false r)
 
-pub root_outside : (s : Span) (c w : Float) → (inside c w s.lo || inside c w s.hi) ≡ false → s ≡ cut_by_root s c w
-unfolding cut_by_root
-root_outside s c w e = side (finite (far2 s c))
-  where
-    side : (t : Bool) → s ≡ cond t (cut_ends s c w) s
-    side true = let n = neither _ _ e in sym (ends_outside s c w n.0 n.1)
-    side false = refl
+-- by the root: an end lies in the slab or none does, and the far distance is finite or not
+module _ (s slab : Span) (c w : Float) (around : slab ≡ about c w) where
+  pub root_cut : {f : Float} {b : Bool} {r : Span} → f ≡ far2 s c → b ≡ finite f → b ≡ true → r ≡ cut_by slab s → r ≡ cut_by_root s c w
+  unfolding cut_by_root cut_ends moved inside
+  root_cut e g t q = q ∙ (rw (around, ← e, ← g, t) refl)
+
+  pub root_far : {f : Float} {b : Bool} → f ≡ far2 s c → b ≡ finite f → b ≡ false → s ≡ cut_by_root s c w
+  unfolding cut_by_root
+  root_far e g t = rw (← e, ← g, t) refl
+
+  pub root_outside : {b : Bool} → b ≡ (within slab s.lo || within slab s.hi) → b ≡ false → s ≡ cut_by_root s c w
+  unfolding cut_by_root inside
+  root_outside e f = side (finite (far2 s c))
+    where
+      side : (t : Bool) → s ≡ cond t (cut_ends s c w) s
+      side true =
+          let p : (inside c w s.lo || inside c w s.hi) ≡ false = rw around at (sym e ∙ f) in
+          let n = neither _ _ p in
+          sym (ends_outside s c w n.0 n.1)
+      side false = refl
 
 -- ---- a wider reach
 summand : (c y : Float) → T (number (c +ᶠ y)) → T (number c)

@@ -9,9 +9,6 @@
 mod reach;
 mod slabs;
 
-pub use reach::narrowed;
-pub use slabs::{cut_by_root, cut_span, far2};
-
 // From its low end to its high end; nothing is left of it where `hi` is below `lo`.
 #[derive(Clone, Copy)]
 pub struct Span {

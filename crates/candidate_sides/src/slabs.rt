@@ -1,49 +1,15 @@
 // What a ball cuts from a span.
-ghost use Rattle.std.specs.Prelude.{◌≡◌, ◌*◌, ◌^◌, ◌<◌, ◌≤◌, true, T, from_bits};
+ghost use Rattle.std.specs.Prelude.{◌≡◌, ◌||◌, ◌*◌, ◌^◌, ◌<◌, ◌≤◌, true, T, from_bits};
 ghost use Rattle.std.specs.Float.{binary64};
 ghost use Rattle.floats.specs.Numbers.{◌≤ᶠ◌};
 ghost use Rattle.floats.specs.Finite.{finite};
 ghost use Rattle.elementary.specs.Root.{sqrt};
-ghost use Rattle.candidate_sides.specs.Slabs.{far2, inside, moved, cut_ends, cut_span, cut_by_root};
+ghost use Rattle.candidate_sides.specs.Slabs.{far2, cut_ends, cut_span, cut_by_root};
+ghost use Rattle.candidate_sides.specs.Inner.Slab.{within, moved_by, cut_by};
 
 use crate::Span;
 use elementary::sqrt;
 use floats::{finite, max};
-
-// The square of the distance from `c` to the farther end of `span`.
-pub fn far2(span: Span, c: f64) -> f64
-    ensures { result ≡ far2 span c }
-{
-    let low = span.lo - c;
-    let high = span.hi - c;
-    max(low * low, high * high)
-}
-
-// Whether `v` lies from `c - w` to `c + w`.
-fn inside(c: f64, w: f64, v: f64) -> bool
-    ensures { result ≡ inside c w v }
-{
-    (c - w <= v) & (v <= c + w)
-}
-
-// The end `v` of a span, or `to` instead where `v` lies from `c - w` to `c + w`.
-fn moved(c: f64, w: f64, v: f64, to: f64) -> f64
-    ensures { result ≡ moved c w v to }
-{
-    if inside(c, w, v) {
-        return to;
-    }
-    v
-}
-
-// `span` with each end that lies from `c - w` to `c + w` moved to the far side of that.
-fn cut_ends(span: Span, c: f64, w: f64) -> Span
-    ensures { result ≡ cut_ends span c w }
-{
-    let lo = moved(c, w, span.lo, c + w);
-    let hi = moved(c, w, span.hi, c - w);
-    Span { lo, hi }
-}
 
 // A value that is at least the root of the number whose bits are `pattern`, and at most 7% above it:
 // half the pattern is about half the exponent.
@@ -54,45 +20,87 @@ fn above_root(pattern: u64) -> f64
     f64::from_bits(pattern / 2 + 0x1ff8_0000_0000_0001)
 }
 
-// Whether a bound of the root of `square` shows that no end of `span` lies within that root of `c`, so
-// that the root need not be taken. It says no for a square at the ends of the range.
-fn misses(span: Span, c: f64, square: f64) -> bool
-    ensures { result ≡ true → cut_ends span c (sqrt square) ≡ span }
-{
-    if 0.0 < square {
-        let pattern = f64::to_bits(square);
-        if std::num::wrapping_sub_u64(pattern, 0x10_0000_0000_0000) < 0x7fe0_0000_0000_0000 {
-            let u = above_root(pattern);
-            return !(inside(c, u, span.lo) | inside(c, u, span.hi));
+impl Span {
+    // The square of the distance from `c` to the farther end of the span.
+    #[tactic(auto, unfolding(crate::specs::Slabs::far2))]
+    pub fn far2(self, c: f64) -> f64
+        ensures { result ≡ far2 self c }
+    {
+        let low = self.lo - c;
+        let high = self.hi - c;
+        max(low * low, high * high)
+    }
+
+    // Whether `v` lies in the span.
+    fn holds(self, v: f64) -> bool
+        ensures { result ≡ within self v }
+    {
+        (self.lo <= v) & (v <= self.hi)
+    }
+
+    // Whether an end of the span lies in `slab`.
+    fn ends_in(self, slab: Span) -> bool
+        ensures { result ≡ (within slab self.lo || within slab self.hi) }
+    {
+        slab.holds(self.lo) | slab.holds(self.hi)
+    }
+
+    // `v`, or `to` instead where `v` lies in the span.
+    fn moved(self, v: f64, to: f64) -> f64
+        ensures { result ≡ moved_by self v to }
+    {
+        if self.holds(v) { to } else { v }
+    }
+
+    // The span with each end that lies in `slab` moved to the far side of that.
+    fn cut_ends(self, slab: Span) -> Span
+        ensures { result ≡ cut_by slab self }
+    {
+        Span {
+            lo: slab.moved(self.lo, slab.hi),
+            hi: slab.moved(self.hi, slab.lo),
         }
     }
-    false
-}
 
-// Cuts `span` by a ball about `c` with the square `r2`, where this is not below `rest`, which is what
-// the other channels have of `far2`. A root is taken only where an end lies inside or nearly so.
-pub fn cut_span(span: Span, c: f64, r2: f64, rest: f64) -> Span
-    ensures { result ≡ cut_span span c r2 rest }
-{
-    if r2 < rest {
-        return span;
-    }
-    let square = r2 - rest;
-    if misses(span, c, square) {
-        return span;
-    }
-    cut_ends(span, c, sqrt(square))
-}
-
-// Cuts `span` on one channel by a ball about `c` whose radius is `w`. Whether `far2` is finite is asked
-// only where an end lies inside: where it is not, the rest is no number and nothing is cut.
-pub fn cut_by_root(span: Span, c: f64, w: f64) -> Span
-    ensures { result ≡ cut_by_root span c w }
-{
-    if inside(c, w, span.lo) | inside(c, w, span.hi) {
-        if finite(far2(span, c)) {
-            return cut_ends(span, c, w);
+    // Whether a bound of the root of `square` shows that no end of the span lies within that root of
+    // `c`, so that the root need not be taken. It says no for a square at the ends of the range.
+    fn misses(self, c: f64, square: f64) -> bool
+        ensures { result ≡ true → cut_ends self c (sqrt square) ≡ self }
+    {
+        // Two tests, since a pattern is asked of no NaN.
+        if 0.0 < square {
+            let pattern = square.to_bits();
+            if (0x0010_0000_0000_0000..0x7ff0_0000_0000_0000).contains(&pattern) {
+                return !self.ends_in(Span::about(c, above_root(pattern)));
+            }
         }
+        false
     }
-    span
+
+    // Cuts the span by a ball about `c` with the square `r2`, where this is not below `rest`, which is
+    // what the other channels have of `far2`. A root is taken only where an end lies inside or nearly so.
+    pub fn cut_span(self, c: f64, r2: f64, rest: f64) -> Span
+        ensures { result ≡ cut_span self c r2 rest }
+    {
+        if r2 < rest {
+            return self;
+        }
+        let square = r2 - rest;
+        if self.misses(c, square) {
+            return self;
+        }
+        self.cut_ends(Span::about(c, sqrt(square)))
+    }
+
+    // Cuts the span on one channel by a ball about `c` whose radius is `w`. Whether `far2` is finite is
+    // asked only where an end lies inside: where it is not, the rest is no number and nothing is cut.
+    pub fn cut_by_root(self, c: f64, w: f64) -> Span
+        ensures { result ≡ cut_by_root self c w }
+    {
+        let slab = Span::about(c, w);
+        if self.ends_in(slab) && finite(self.far2(c)) {
+            return self.cut_ends(slab);
+        }
+        self
+    }
 }

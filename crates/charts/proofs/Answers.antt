@@ -5,36 +5,36 @@ use mathlib.Core.Bool.{Bool, true}
 use mathlib.Core.List.{List, [], ◌∷◌}
 use native.Mathlib.Omega.{arith}
 use borrow.Author.Tests.{ltb-false}
+use Rattle.std.specs.Prelude.{Result, Ok, Err}
 use Rattle.refusals.specs.Limits.{max_readings}
 use Rattle.refusals.specs.Tried.{tried, passed, count_of}
 use Rattle.refusals.specs.Said.{answered, refusing, said}
 use Rattle.refusals.proofs.TriedLaws.{tried_map, tried_passed, passed_first, passed_rest, passed_left, passed_right, no_count, passes, refuses, verdict}
 use Rattle.refusals.specs.declared.Refusal.{Refusal}
-use Rattle.refusals.specs.declared.Answer.{Answer}
 use Rattle.charts.specs.Answers.{size_tests, chart_tests, chart_answer, admitted_as}
 
 -- in the rules' numbers
 pub answer_said : (ts : List (Bool × Refusal)) (n room count : ℕ) → said (chart_answer ts n room count) ≡ tried refusing (chart_tests ts n room) (answered (count ∷ []))
 unfolding chart_answer
-answer_said ts n room count = tried_map said Answer.Refused (chart_tests ts n room) (Answer.Count count)
+answer_said ts n room count = tried_map said Err (chart_tests ts n room) (Ok count)
 
 -- ---- an answer that is a count
 module _ (ts : List (Bool × Refusal)) (n room : ℕ) (p : passed (chart_tests ts n room) ≡ true) where
-  pub passed_count : (count : ℕ) → chart_answer ts n room count ≡ Answer.Count count
+  pub passed_count : (count : ℕ) → chart_answer ts n room count ≡ Ok count
   unfolding chart_answer
-  passed_count count = tried_passed Answer.Refused (chart_tests ts n room) (Answer.Count count) p
+  passed_count count = tried_passed Err (chart_tests ts n room) (Ok count) p
 
   sizes : passed (size_tests n room) ≡ true
   sizes = passed_right ts (size_tests n room) p
 
-  few : n ≤ max_readings
+  pub few : n ≤ max_readings
   few = ltb-false max_readings n (passed_first _ _ sizes)
 
-  roomy : n ≤ room
+  pub roomy : n ≤ room
   roomy = ltb-false room n (passed_first _ _ (passed_rest _ _ sizes))
 
 -- no test of the settings held, and it is that count
-pub count_accepted : (ts : List (Bool × Refusal)) (n room count k : ℕ) → Answer.Count k ≡ chart_answer ts n room count → (passed ts ≡ true) × (k ≡ count)
+pub count_accepted : (ts : List (Bool × Refusal)) (n room count k : ℕ) → Ok k ≡ chart_answer ts n room count → (passed ts ≡ true) × (k ≡ count)
 unfolding chart_answer
 count_accepted ts n room count k e = elim (verdict (chart_tests ts n room)) [
   | passes p ↦ (passed_left ts (size_tests n room) p, ap count_of (e ∙ passed_count ts n room p count))
@@ -62,5 +62,5 @@ pub record Fits (n room k : ℕ) : Type 0 where
   pub records : k ≤ room
   pub few : k ≤ max_readings
 
-pub counted_fits : (ts : List (Bool × Refusal)) (n room : ℕ) (answer : Answer) (k : ℕ) → answer ≡ admitted_as ts n room → k ≡ count_of answer → Fits n room k
+pub counted_fits : (ts : List (Bool × Refusal)) (n room : ℕ) (answer : Result ℕ Refusal) (k : ℕ) → answer ≡ admitted_as ts n room → k ≡ count_of answer → Fits n room k
 counted_fits ts n room answer k e f = let both = within_both ts n room in rw (f, e) (record { readings = both.0; records = both.1; few = few_records ts n room })

@@ -5,15 +5,14 @@ use mathlib.Core.Bool.{Bool, true, false, not, ◌&&◌, cond}
 use mathlib.Core.List.{List, [], ◌∷◌, ◌++◌}
 use native.Mathlib.Omega.{arith}
 use lib.ListN.{length}
+use Rattle.std.specs.Prelude.{Result, Ok, Err, ⊤}
 use Rattle.refusals.specs.Stated.{stated}
 use Rattle.refusals.specs.Tried.{tried, passed, count_of}
 use Rattle.refusals.specs.Said.{answered, refusing, said}
 use Rattle.refusals.proofs.Apart.{refused_apart}
 use Rattle.refusals.proofs.TriedLaws.{tried_map, tried_append, no_result}
 use Rattle.refusals.specs.declared.Refusal.{Refusal}
-use Rattle.refusals.specs.declared.Answer.{Answer}
 use Rattle.charts.specs.declared.InRange.{InRange}
-use Rattle.charts.specs.declared.Settings.{Settings}
 use Rattle.charts.specs.Settings.{setting_tests, tested_as, after_settings, Named, target_wrong, sigma_wrong, weight_wrong, bound_wrong, none_wrong}
 use Rattle.charts.specs.Answers.{size_tests, chart_answer, admitted_as, admitted_after}
 use Rattle.charts.specs.Outcomes.{analyzed, provided, signalled}
@@ -22,11 +21,11 @@ use Rattle.charts.proofs.Answers.{answer_said}
 
 -- the settings' tests `ts`, and after them `us`
 pub tested_first : {A : Type 0} (refuse : Refusal → A) (ts us : List (Bool × Refusal)) (result : A) → after_settings refuse (tested_as ts) (tried refuse us result) ≡ tried refuse (ts ++ us) result
-tested_first refuse ts us result = tried_map (λ (s : Settings). after_settings refuse s (tried refuse us result)) Settings.Refused ts Settings.Accepted ∙ sym (tried_append refuse ts us result)
+tested_first refuse ts us result = tried_map (λ (s : Result ⊤ Refusal). after_settings refuse s (tried refuse us result)) Err ts (Ok tt) ∙ sym (tried_append refuse ts us result)
 
 pub admitted_tested : (ts : List (Bool × Refusal)) (n room : ℕ) → admitted_after (tested_as ts) n room ≡ admitted_as ts n room
 unfolding chart_answer
-admitted_tested ts n room = tested_first Answer.Refused ts (size_tests n room) (Answer.Count n)
+admitted_tested ts n room = tested_first Err ts (size_tests n room) (Ok n)
 
 pub settings_pass : (s : InRange) → passed (setting_tests s) ≡ (s.target && s.sigma && s.weight && s.bound)
 unfolding passed
@@ -63,7 +62,7 @@ module _ (us : List (Bool × Refusal)) (h : RefusesLow us) (values : List ℕ) (
       go true true true false t v w x e = bound_wrong (sym (refused_apart Refusal.Bound r e)) t v w x
       go true true true true t v w x e = none_wrong (low us values r h e) t v w x
 
-answer_names : (s : InRange) (n room count : ℕ) (r : Refusal) → Answer.Refused r ≡ chart_answer (setting_tests s) n room count → Named s r
+answer_names : (s : InRange) (n room count : ℕ) (r : Refusal) → Err r ≡ chart_answer (setting_tests s) n room count → Named s r
 answer_names s n room count r e = refusal_names (size_tests n room) small (count ∷ []) r s (sym (answer_said (setting_tests s) n room count) ∙ sym (ap said e))
   where
     small : RefusesLow (size_tests n room)
@@ -71,13 +70,13 @@ answer_names s n room count r e = refusal_names (size_tests n room) small (count
 
 -- ---- of a chart's calls: a refusal names the setting, and changes nothing that was lent
 pub analyzed_refused : {D : Type 0} (s : InRange) (n : ℕ) (records : ℕ → List D) (entry exit : List D) (r : Refusal) → records 0 ≡ []
-    → ◌≡◌ {A = Answer × List D} (Answer.Refused r, exit) (analyzed (setting_tests s) n records entry) → Named s r × (exit ≡ entry)
+    → ◌≡◌ {A = Result ℕ Refusal × List D} (Err r, exit) (analyzed (setting_tests s) n records entry) → Named s r × (exit ≡ entry)
 analyzed_refused {D} s n records entry exit r z e =
-    let answer : Answer.Refused r ≡ admitted_as (setting_tests s) n (length entry) = ap (λ (o : Answer × List D). o.0) e in
-    (answer_names s n (length entry) n r answer, ap (λ (o : Answer × List D). o.1) e ∙ ap (λ (a : Answer). lent (records (count_of a)) entry) (sym answer) ∙ ap (λ (l : List D). lent l entry) z)
+    let answer : Err r ≡ admitted_as (setting_tests s) n (length entry) = ap (λ (o : Result ℕ Refusal × List D). o.0) e in
+    (answer_names s n (length entry) n r answer, ap (λ (o : Result ℕ Refusal × List D). o.1) e ∙ ap (λ (a : Result ℕ Refusal). lent (records (count_of a)) entry) (sym answer) ∙ ap (λ (l : List D). lent l entry) z)
 
 pub signalled_refused : (s : InRange) (n : ℕ) (points entry exit : List ℕ) (r : Refusal)
-    → ◌≡◌ {A = Answer × List ℕ} (Answer.Refused r, exit) (signalled (setting_tests s) n points entry) → Named s r × (exit ≡ entry)
+    → ◌≡◌ {A = Result ℕ Refusal × List ℕ} (Err r, exit) (signalled (setting_tests s) n points entry) → Named s r × (exit ≡ entry)
 signalled_refused s n points entry exit r e =
-    let answer : Answer.Refused r ≡ chart_answer (setting_tests s) n (length entry) (length points) = ap (λ (o : Answer × List ℕ). o.0) e in
-    (answer_names s n (length entry) (length points) r answer, ap (λ (o : Answer × List ℕ). o.1) e ∙ ap (λ (a : Answer). lent (provided a points) entry) (sym answer))
+    let answer : Err r ≡ chart_answer (setting_tests s) n (length entry) (length points) = ap (λ (o : Result ℕ Refusal × List ℕ). o.0) e in
+    (answer_names s n (length entry) (length points) r answer, ap (λ (o : Result ℕ Refusal × List ℕ). o.1) e ∙ ap (λ (a : Result ℕ Refusal). lent (provided a points) entry) (sym answer))

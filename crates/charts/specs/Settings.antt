@@ -1,23 +1,22 @@
 -- The tests of a chart's settings, in their order. Rules 2.4 and 5.1. Definitions only.
-use Rattle.std.specs.Prelude.{◌<◌, ◌≡◌, Bool, true, false, not, List, [], ◌∷◌}
+use Rattle.std.specs.Prelude.{◌<◌, ◌≡◌, Bool, true, false, not, List, [], ◌∷◌, Result, Ok, Err, ⊤}
 use Rattle.refusals.specs.Stated.{stated}
 use Rattle.refusals.specs.Tried.{tried}
 use Rattle.refusals.specs.declared.Refusal.{Refusal}
 use Rattle.charts.specs.declared.InRange.{InRange}
-use Rattle.charts.specs.declared.Settings.{Settings}
 
 -- 15 to 18, of settings of which `s` says whether each is in range
 abbrev pub setting_tests : InRange → List (Bool × Refusal)
 setting_tests s = (not s.target, Refusal.Target) ∷ (not s.sigma, Refusal.Sigma) ∷ (not s.weight, Refusal.Weight) ∷ (not s.bound, Refusal.Bound) ∷ []
 
 -- what the settings' `tests` come to: the refusal of the first that holds, or that the settings are accepted
-abbrev pub tested_as : List (Bool × Refusal) → Settings
-tested_as tests = tried Settings.Refused tests Settings.Accepted
+abbrev pub tested_as : List (Bool × Refusal) → Result ⊤ Refusal
+tested_as tests = tried Err tests (Ok tt)
 
 -- what is answered after the settings: `rest` where they are accepted, and else their refusal, of which `refuse` makes an answer
-abbrev pub after_settings : {A : Type 0} → (Refusal → A) → Settings → A → A
-after_settings refuse Settings.Accepted rest = rest
-after_settings refuse (Settings.Refused r) rest = refuse r
+abbrev pub after_settings : {A : Type 0} → (Refusal → A) → Result ⊤ Refusal → A → A
+after_settings refuse (Ok tt) rest = rest
+after_settings refuse (Err r) rest = refuse r
 
 -- what the refusal `r` of a chart's call says of its settings: 15 to 18 name the first that is out of range, and a lower number says that none is
 pub data Named (s : InRange) (r : Refusal) : Type 0 where

@@ -1,5 +1,5 @@
 -- What a segment costs by the running sums that an area holds. Definitions only.
-use Rattle.std.specs.Prelude.{ℕ, zero, suc, ◌+◌, ◌-◌, ◌*◌, Bool, cond, ◌&&◌, List, length, get_or, nat_le, nat_lt, slice_index_or, Float}
+use Rattle.std.specs.Prelude.{ℕ, zero, suc, ◌+◌, ◌-◌, ◌*◌, Bool, cond, ◌&&◌, List, length, get_or, nat_le, nat_lt, Float}
 use Rattle.std.specs.Float.{nan}
 use Rattle.refusals.specs.Limits.{max_channels, max_readings}
 use Rattle.floats.specs.Numbers.{◌+ᶠ◌, ◌-ᶠ◌, +0, of_whole}
@@ -12,8 +12,8 @@ unfoldable pub segment_at : List Float → ℕ → ℕ → ℕ → ℕ → Segme
 segment_at area n place a b =
     record {
       length = of_whole (b - a);
-      sum = slice_index_or area (place + b) nan -ᶠ get_or area (place + a) nan;
-      sum_of_squares = slice_index_or area (place + (n + 1) + b) nan -ᶠ get_or area (place + (n + 1) + a) nan;
+      sum = get_or area (place + b) nan -ᶠ get_or area (place + a) nan;
+      sum_of_squares = get_or area (place + (n + 1) + b) nan -ᶠ get_or area (place + (n + 1) + a) nan;
     }
 
 -- the costs by `cost` of the segment from `a` up to `b`, added over the first channels whose sums stand one after the other from the front of `area`; the last argument says how many channels

@@ -22,6 +22,7 @@ fn bic(cost: CostFunction, n: usize, channels: f64, noise: f64) -> f64
 // The penalty of a change in `channels` channels of `n` readings, whose noise variances add up to
 // `noise`: a custom `penalty`'s value times `channels`, or that of the Bayesian information criterion
 // for `cost`.
+#[tactic(auto, unfolding(crate::specs::Penalties::penalty_of))]
 pub fn resolve_penalty(
     penalty: Penalty,
     cost: CostFunction,

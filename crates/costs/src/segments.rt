@@ -6,6 +6,7 @@ use crate::{CostFunction, Segment};
 use elementary::ln;
 
 // The sum of the squares of the readings of `segment`, each less the segment's mean.
+#[tactic(auto, unfolding(crate::specs::Costs::l2_cost))]
 pub fn l2_cost(segment: Segment) -> f64
     ensures { result ≡ l2_cost segment }
 {
@@ -27,6 +28,7 @@ fn normal_cost(segment: Segment) -> f64
 }
 
 // The cost of `segment` by the cost function `cost`.
+#[tactic(auto, unfolding(crate::specs::Costs::cost_of))]
 pub fn segment_cost(cost: CostFunction, segment: Segment) -> f64
     ensures { result ≡ cost_of cost segment }
 {

@@ -8,6 +8,7 @@ use mathlib.Core.List.{List, [], ◌∷◌, ◌++◌}
 use lib.Dec.{T}
 use lib.ListN.{length, get_or, drop, replicate, get_or-replicate}
 use lib.Ieee.{Float, nan}
+use Rattle.std.specs.Prelude.{Result, Ok, Some}
 use Rattle.floats.specs.Numbers.{◌<ᶠ◌}
 use Rattle.floats.specs.Finite.{finite}
 use Rattle.refusals.specs.Limits.{max_readings}
@@ -20,12 +21,10 @@ use Rattle.charts.specs.Among.{Among}
 use Rattle.charts.proofs.Points.{among_front, signal_among}
 use Rattle.charts.specs.Sides.{signals, faces}
 use Rattle.charts.proofs.SideLaws.{faces_signals}
-use Rattle.refusals.specs.declared.Answer.{Answer}
 use Rattle.charts.proofs.Answers.{count_accepted}
 use Rattle.cusum.specs.declared.Cusum.{Cusum}
 use Rattle.cusum.specs.declared.CusumResult.{CusumResult}
 use Rattle.charts.specs.declared.Sum.{Sum}
-use Rattle.charts.specs.declared.Heard.TheVariants as Heard
 use Rattle.cusum.specs.Chart.{accepted, tests_of, fresh, shown_of, start_state, next_state, record_at, signal_of, signalling, analyzed, signalled}
 use Rattle.charts.specs.Hearing.{heard_as}
 use Rattle.cusum.specs.RunLength.{sum_of, fed, heard_from, heard, run_length}
@@ -51,7 +50,7 @@ record HeardFirst (c : Cusum) (v : Float) (asked : Sum) (n : ℕ) : Type 0 where
   level : T (finite v)
   first : FirstHeard c v asked n
 
-heard_first : (c : Cusum) (v : Float) (asked : Sum) (n : ℕ) → heard_as (Heard.At n) ≡ run_length c v asked → HeardFirst c v asked n
+heard_first : (c : Cusum) (v : Float) (asked : Sum) (n : ℕ) → heard_as (Ok (Some n)) ≡ run_length c v asked → HeardFirst c v asked n
 unfolding run_length
 heard_first c v asked n e =
     let level_test : Bool × Refusal = (not (finite v), Refusal.NonFinite 0 0) in
@@ -81,29 +80,29 @@ unfolding heard
 heard_one c v asked n = one_from c v asked n max_readings 0 fresh
 
 -- ---- the promise
-module _ (c : Cusum) (v : Float) (asked : Sum) (n : ℕ) (heard_at : heard_as (Heard.At n) ≡ run_length c v asked) (xs : List Float) (p d : ℕ) (lasting : Lasting asked v xs p d n) where
+module _ (c : Cusum) (v : Float) (asked : Sum) (n : ℕ) (heard_at : heard_as (Ok (Some n)) ≡ run_length c v asked) (xs : List Float) (p d : ℕ) (lasting : Lasting asked v xs p d n) where
   -- the definition's record, of settings that are accepted: its side is above or both, and for the lower sum below or both
   pub record_side : T (accepted c) → faces asked (record_at c xs (p + d)).side ≡ true
   record_side ok = let f = heard_first c v asked n heard_at in lasting_sides c ok asked v f.level n f.first xs p d lasting
 
   -- where `analyze` answered with records, that of the reading at `p + d` has such a side
-  pub analyze_side : (entry exit : List CusumResult) (k : ℕ) → ◌≡◌ {A = Answer × List CusumResult} (Answer.Count k, exit) (analyzed c xs entry) → faces asked (get_or exit (p + d) fresh).side ≡ true
+  pub analyze_side : (entry exit : List CusumResult) (k : ℕ) → ◌≡◌ {A = Result ℕ Refusal × List CusumResult} (Ok k, exit) (analyzed c xs entry) → faces asked (get_or exit (p + d) fresh).side ≡ true
   analyze_side entry exit k a = let f = heard_first c v asked n heard_at in lasting_sides_lent c xs entry exit k a asked v f.level n f.first p d lasting
 
   -- so that both signal
   record_signals : T (accepted c) → signals (record_at c xs (p + d)).side ≡ true
   record_signals ok = faces_signals asked (record_at c xs (p + d)).side (record_side ok)
 
-  pub analyze_signals : (entry exit : List CusumResult) (k : ℕ) → ◌≡◌ {A = Answer × List CusumResult} (Answer.Count k, exit) (analyzed c xs entry) → signals (get_or exit (p + d) fresh).side ≡ true
+  pub analyze_signals : (entry exit : List CusumResult) (k : ℕ) → ◌≡◌ {A = Result ℕ Refusal × List CusumResult} (Ok k, exit) (analyzed c xs entry) → signals (get_or exit (p + d) fresh).side ≡ true
   analyze_signals entry exit k a = faces_signals asked (get_or exit (p + d) fresh).side (analyze_side entry exit k a)
 
   -- where `signal_points` answered with `count` indices, `p + d` is one of them
-  pub signal_points_has : (entry exit : List ℕ) (count : ℕ) → ◌≡◌ {A = Answer × List ℕ} (Answer.Count count, exit) (signalled c xs entry) → Among exit count (p + d)
+  pub signal_points_has : (entry exit : List ℕ) (count : ℕ) → ◌≡◌ {A = Result ℕ Refusal × List ℕ} (Ok count, exit) (signalled c xs entry) → Among exit count (p + d)
   signal_points_has entry exit count a =
       let points = signalling c xs (length xs) in
-      let answer : Answer.Count count ≡ chart_answer (tests_of c) (length xs) (length entry) (length points) = ap (λ (o : Answer × List ℕ). o.0) a in
+      let answer : Ok count ≡ chart_answer (tests_of c) (length xs) (length entry) (length points) = ap (λ (o : Result ℕ Refusal × List ℕ). o.0) a in
       let counts = count_accepted (tests_of c) (length xs) (length entry) (length points) count answer in
-      let left : exit ≡ lent points entry = ap (λ (o : Answer × List ℕ). o.1) a ∙ ap (λ (r : Answer). lent (provided r points) entry) (sym answer) in
+      let left : exit ≡ lent points entry = ap (λ (o : Result ℕ Refusal × List ℕ). o.1) a ∙ ap (λ (r : Result ℕ Refusal). lent (provided r points) entry) (sym answer) in
       rw (left, counts.1)
       (among_front points (drop (length points) entry) (p + d)
       (signal_among shown_of start_state next_state c xs signal_of (length xs) (p + d) (in_series xs (p + d) lasting.last) (record_signals (passed_accepted c counts.0))))

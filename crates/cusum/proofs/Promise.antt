@@ -12,6 +12,8 @@ use lib.Ieee.{Float, nan, binary64, neg, sub, le}
 use lib.Ieee.Bits.{is_true}
 use lib.Ieee.Fits.{and_l, and_r}
 use lib.Ieee.Positive.{positive}
+use Rattle.std.specs.Prelude.{Result, Ok}
+use Rattle.refusals.specs.declared.Refusal.{Refusal}
 use Rattle.floats.specs.Numbers.{◌<ᶠ◌, ◌≤ᶠ◌, +0}
 use Rattle.floats.specs.Finite.{finite}
 use Rattle.floats.proofs.Order.Zero.{finite_above}
@@ -21,7 +23,6 @@ use Rattle.floats.proofs.Order.Quotients.{div_le}
 use Rattle.charts.specs.Runs as Runs
 use Rattle.charts.specs.Spans.{count_in}
 use Rattle.charts.specs.declared.Observation.{Observation}
-use Rattle.refusals.specs.declared.Answer.{Answer}
 use Rattle.charts.specs.Sides.{is_above, is_below, faces}
 use Rattle.charts.proofs.SideLaws.{side_above, side_below}
 use Rattle.charts.proofs.Written.{analyzed_writes}
@@ -173,7 +174,7 @@ in_series [] i t = absurd t
 in_series (x ∷ xs) zero t = zero-lt-suc (length xs)
 in_series (x ∷ xs) (suc i) t = suc-le-suc (in_series xs i t)
 
-pub lasting_sides_lent : (c : Cusum) (xs : List Float) (entry exit : List CusumResult) (k : ℕ) → ◌≡◌ {A = Answer × List CusumResult} (Answer.Count k, exit) (analyzed c xs entry)
+pub lasting_sides_lent : (c : Cusum) (xs : List Float) (entry exit : List CusumResult) (k : ℕ) → ◌≡◌ {A = Result ℕ Refusal × List CusumResult} (Ok k, exit) (analyzed c xs entry)
     → (asked : Sum) (v : Float) → T (finite v) → (n : ℕ) → FirstHeard c v asked n → (p d : ℕ) → Lasting asked v xs p d n → faces asked (get_or exit (p + d) fresh).side ≡ true
 lasting_sides_lent c xs entry exit k a asked v F n first p d l =
     let w = analyzed_writes shown_of start_state next_state c xs (tests_of c) entry exit k a in

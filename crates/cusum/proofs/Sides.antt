@@ -5,9 +5,10 @@ use mathlib.Core.Bool.{true, false, ◌&&◌, ◌||◌}
 use mathlib.Core.List.{List}
 use lib.ListN.{get_or}
 use lib.Ieee.{Float, nan}
+use Rattle.std.specs.Prelude.{Result, Ok}
+use Rattle.refusals.specs.declared.Refusal.{Refusal}
 use Rattle.floats.specs.Numbers.{◌<ᶠ◌}
 use Rattle.floats.specs.Finite.{finite}
-use Rattle.refusals.specs.declared.Answer.{Answer}
 use Rattle.charts.specs.Sides.{side_of, signals}
 use Rattle.charts.specs.declared.Observation.{Observation}
 use Rattle.charts.specs.declared.Side.TheVariants as Sided
@@ -34,7 +35,7 @@ pub record_gap : (c : Cusum) (xs : List Float) (i : ℕ) → finite (get_or xs i
 record_gap c xs i e = gap_is_none c (shown_of (state_at shown_of start_state next_state c xs i)) (record { 0 = i }) (get_or xs i nan) e
 
 -- ---- where `analyze` answered with `k` records: that of the reading at `i`
-module _ (c : Cusum) (xs : List Float) (entry exit : List CusumResult) (k : ℕ) (a : ◌≡◌ {A = Answer × List CusumResult} (Answer.Count k, exit) (analyzed c xs entry)) (i : ℕ) (h : i < k) where
+module _ (c : Cusum) (xs : List Float) (entry exit : List CusumResult) (k : ℕ) (a : ◌≡◌ {A = Result ℕ Refusal × List CusumResult} (Ok k, exit) (analyzed c xs entry)) (i : ℕ) (h : i < k) where
   -- its record
   abbrev written : CusumResult
   written = get_or exit i fresh

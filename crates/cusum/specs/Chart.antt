@@ -1,5 +1,5 @@
 -- The CUSUM chart: its settings, one reading's step, the records of a series, and the indices that signal. Rules 5.1 to 5.3 and 5.5. Definitions only.
-use Rattle.std.specs.Prelude.{ℕ, Bool, ◌&&◌, cond, List, length, Float}
+use Rattle.std.specs.Prelude.{ℕ, Bool, ◌&&◌, cond, List, length, Float, Result}
 use Rattle.floats.specs.Numbers.{◌+ᶠ◌, ◌-ᶠ◌, ◌/ᶠ◌, ◌<ᶠ◌, ◌≤ᶠ◌, +0, of_whole, ratio}
 use Rattle.floats.specs.Finite.{finite}
 use Rattle.floats.specs.MaxMin.{larger}
@@ -8,7 +8,6 @@ use Rattle.charts.specs.Settings.{setting_tests}
 use Rattle.charts.specs.Runs as Runs
 use Rattle.charts.specs.Outcomes as Outcomes
 use Rattle.refusals.specs.declared.Refusal.{Refusal}
-use Rattle.refusals.specs.declared.Answer.{Answer}
 use Rattle.charts.specs.declared.InRange.{InRange}
 use Rattle.charts.specs.declared.Observation.{Observation}
 use Rattle.charts.specs.declared.Side.TheVariants as Sided
@@ -80,8 +79,8 @@ abbrev pub signalling : Cusum → List Float → ℕ → List ℕ
 signalling c xs n = Runs.points shown_of start_state next_state c xs signal_of n
 
 -- what `analyze` and `signal_points` answer and leave in the lent slice
-abbrev pub analyzed : Cusum → List Float → List CusumResult → Answer × List CusumResult
+abbrev pub analyzed : Cusum → List Float → List CusumResult → Result ℕ Refusal × List CusumResult
 analyzed c xs entry = Outcomes.analyzed (tests_of c) (length xs) (records c xs) entry
 
-abbrev pub signalled : Cusum → List Float → List ℕ → Answer × List ℕ
+abbrev pub signalled : Cusum → List Float → List ℕ → Result ℕ Refusal × List ℕ
 signalled c xs entry = Outcomes.signalled (tests_of c) (length xs) (signalling c xs (length xs)) entry

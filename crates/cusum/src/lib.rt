@@ -7,6 +7,7 @@
 // `proofs/Promise` the promise that a lasting shift is signalled on its side.
 #![tactic(auto)]
 
+mod chart;
 mod listen;
 mod step;
 
@@ -15,13 +16,11 @@ ghost use Rattle.cusum.specs.Chart.{new_of, with_params, analyzed, signalled};
 ghost use Rattle.charts.specs.Hearing.{heard_as};
 ghost use Rattle.cusum.specs.RunLength.{run_length};
 
-use charts::{Heard, Observation, Settings, Side, Sum};
+use charts::{Chart, Observation, Side, Sum};
 use listen::listen;
-use refusals::{Answer, Refusal};
-pub use step::{following, judge, start};
-use step::{next, tested};
+use refusals::Refusal;
 
-#[derive(Clone, Copy)]
+#[derive(Clone, Copy, PartialEq, Debug)]
 pub struct Cusum {
     pub target: f64,
     pub sigma: f64,
@@ -30,7 +29,7 @@ pub struct Cusum {
 }
 
 // The record of the observation `index`: both sums after it, and the side on which they are above h.
-#[derive(Clone, Copy)]
+#[derive(Clone, Copy, PartialEq, Debug)]
 pub struct CusumResult {
     pub s_upper: f64,
     pub s_lower: f64,
@@ -39,7 +38,7 @@ pub struct CusumResult {
 }
 
 // What goes from reading to reading: nothing beside the last record.
-#[derive(Clone, Copy)]
+#[derive(Clone, Copy, PartialEq, Debug)]
 pub struct State {
     pub shown: CusumResult,
 }
@@ -70,60 +69,36 @@ impl Cusum {
 
     // Writes a record for each reading of `data` to the front of `records`, and leaves the others; a
     // refusal changes nothing. Cost: one step for each reading.
-    pub fn analyze(self, data: &[f64], records: &mut [CusumResult]) -> Answer
+    #[tactic(auto, unfolding(crate::specs::Chart::tests_of))]
+    pub fn analyze(self, data: &[f64], records: &mut [CusumResult]) -> Result<usize, Refusal>
         ensures { (result, records.new) ≡ analyzed self «data».now records.old }
     {
-        let answer = judge(self, data.len(), records.len());
-        let n = charts::count(answer);
-        let mut state = start(self);
-        let mut i = 0;
-        while i < n {
-            state = next(self, data, i, state);
-            records[i] = state.shown;
-            i += 1;
-        }
-        answer
+        charts::analyze(self, data, records)
     }
 
     // Writes the index of each reading of `data` that signals to the front of `points`, which needs
     // room for as many as there are readings, and leaves the others; a refusal changes nothing. Cost:
     // one step for each reading.
-    pub fn signal_points(self, data: &[f64], points: &mut [usize]) -> Answer
+    #[tactic(auto, unfolding(crate::specs::Chart::tests_of))]
+    pub fn signal_points(self, data: &[f64], points: &mut [usize]) -> Result<usize, Refusal>
         ensures { (result, points.new) ≡ signalled self «data».now points.old }
     {
-        let answer = judge(self, data.len(), points.len());
-        let n = charts::count(answer);
-        let mut state = start(self);
-        let mut count = 0;
-        let mut i = 0;
-        while i < n {
-            state = next(self, data, i, state);
-            let shown = state.shown;
-            let side = shown.side;
-            count = charts::note(charts::signals(side), i, count, points);
-            i += 1;
-        }
-        charts::marked(answer, count)
+        charts::signal_points(self, data, points)
     }
 
     // The first reading, 1 to 4,096, at which a fresh chart that is fed only `level` has the sum `asked`
-    // above h. Settings that are out of range are refused first, and then a `level` that is not finite.
-    // Cost: one step for each reading up to that one.
-    pub fn run_length(self, level: f64, asked: Sum) -> Heard
+    // above h, or none. Settings that are out of range are refused first, and then a `level` that is not
+    // finite. Cost: one step for each reading up to that one.
+    pub fn run_length(self, level: f64, asked: Sum) -> Result<Option<usize>, Refusal>
         ensures { heard_as result ≡ run_length self level asked }
     {
-        let settings = tested(self);
-        match settings {
-            Settings::Accepted => {
-                if floats::finite(level) {
-                    return listen(self, level, asked);
-                }
-                Heard::Refused(Refusal::NonFinite {
-                    channel: 0,
-                    index: 0,
-                })
-            }
-            Settings::Refused(refusal) => Heard::Refused(refusal),
+        charts::tested(self.in_range())?;
+        if !floats::finite(level) {
+            return Err(Refusal::NonFinite {
+                channel: 0,
+                index: 0,
+            });
         }
+        Ok(listen(self, level, asked))
     }
 }

@@ -1,38 +1,11 @@
-// The settings of a chart, one reading's step, and the states of a run.
-ghost use Rattle.std.specs.Prelude.{◌≡◌, ◌<◌, true, length, get_or};
-ghost use Rattle.std.specs.Float.{nan};
+// One reading's step.
+ghost use Rattle.std.specs.Prelude.{◌≡◌, true};
 ghost use Rattle.floats.specs.Numbers.{◌+ᶠ◌, ◌-ᶠ◌, ◌<ᶠ◌, +0};
 ghost use Rattle.floats.specs.MaxMin.{larger};
-ghost use Rattle.charts.specs.Settings.{tested_as};
-ghost use Rattle.charts.specs.Answers.{admitted_as};
-ghost use Rattle.cusum.specs.Chart.{tests_of, moved, step_of, start_state, next_state, following_state};
+ghost use Rattle.cusum.specs.Chart.{moved, step_of};
 
-use crate::{Cusum, CusumResult, State};
-use charts::{InRange, Observation, Settings, Side};
-use refusals::Answer;
-
-// The settings of `chart`, tested in their order.
-pub(crate) fn tested(chart: Cusum) -> Settings
-    ensures { result ≡ tested_as (tests_of chart) }
-{
-    let target = floats::finite(chart.target);
-    let sigma = floats::finite(chart.sigma) & (0.0 < chart.sigma);
-    let weight = floats::finite(chart.k) & (0.0 <= chart.k);
-    let bound = floats::finite(chart.h) & (0.0 < chart.h);
-    charts::tested(InRange {
-        target,
-        sigma,
-        weight,
-        bound,
-    })
-}
-
-// What `analyze` answers for `readings` readings and room for `room` results.
-pub fn judge(chart: Cusum, readings: usize, room: usize) -> Answer
-    ensures { result ≡ admitted_as (tests_of chart) readings room }
-{
-    charts::admitted(tested(chart), readings, room)
-}
+use crate::{Cusum, CusumResult};
+use charts::{Observation, Side};
 
 // `sum` less the allowance `k`, and 0 where that is not above 0. The difference is no negative zero, as
 // `k` is above 0, so that this is the larger of the two, and one instruction.
@@ -90,38 +63,4 @@ pub(crate) fn step(chart: Cusum, before: CusumResult, index: Observation, x: f64
             index,
         }
     }
-}
-
-// The state before the first reading: both sums are zero.
-pub fn start(chart: Cusum) -> State
-    ensures { result ≡ start_state chart }
-{
-    let shown = CusumResult {
-        s_upper: 0.0,
-        s_lower: 0.0,
-        side: Side::None,
-        index: Observation(0),
-    };
-    State { shown }
-}
-
-// The state after the reading `data[i]`, from the `state` before it.
-pub(crate) fn next(chart: Cusum, data: &[f64], i: usize, state: State) -> State
-    requires { i < length «data».now }
-    ensures { result ≡ next_state chart state i (get_or «data».now i nan) }
-{
-    let before = state.shown;
-    let after = step(chart, before, Observation(i), data[i]);
-    State { shown: after }
-}
-
-// The state after the reading `data[i]`, from the `state` before it; the same state where there is no
-// such reading.
-pub fn following(chart: Cusum, data: &[f64], i: usize, state: State) -> State
-    ensures { result ≡ following_state chart «data».now i state }
-{
-    if i < data.len() {
-        return next(chart, data, i, state);
-    }
-    state
 }

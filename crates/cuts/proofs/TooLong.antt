@@ -2,7 +2,7 @@
 use Prim.Native.Nat.{ℕ, ◌<◌}
 use mathlib.Core.Path.{◌≡◌, refl, ap}
 use mathlib.Core.List.{List}
-use mathlib.Core.Option.{none}
+use Rattle.std.specs.Prelude.{None}
 use borrow.Author.Tests.{lt-leb}
 use lib.ListN.{length}
 use Rattle.refusals.specs.Said.{refusing}
@@ -11,7 +11,7 @@ use Rattle.cuts_input.specs.Form.{request_of}
 use Rattle.cuts_output.specs.Lines.{text}
 use Rattle.cuts_answer.specs.Answer.{request_said, output}
 
-no_request : (input : List ℕ) → 8236 < length input → request_of input ≡ none
+no_request : (input : List ℕ) → 8236 < length input → request_of input ≡ None
 unfolding request_of
 no_request input h = rw (lt-leb (length input) 8236 h, request_of) refl
 

@@ -21,7 +21,8 @@ fn complain(err: &Stderr, message: &str) {
 }
 
 // How many bytes are taken for the input, where `count` were read into room for `room` and the last
-// read answered `got` and gave none: all of them, which is too many, where it failed.
+// read answered `got` and gave none: all of them, which is too many, where it failed. It is a count and no
+// `Result`, since the clause `taken_as` has the failed read so.
 fn taken(err: &Stderr, got: io::Result<usize>, count: usize, room: usize) -> usize
     ensures { result ≡ taken_as got count room }
 {
@@ -38,6 +39,7 @@ fn read_input(mut source: Stdin, err: &Stderr, input: &mut [u8]) -> usize
     ensures { IsPrefixLen result input.new }
 {
     let mut count = 0;
+    // No `for`: a turn goes on by as many bytes as its read gave.
     while count < input.len() {
         let got = source.read(&mut input[count..]);
         let more = got.unwrap_or(0);

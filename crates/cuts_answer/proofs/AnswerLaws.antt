@@ -3,7 +3,8 @@ use Prim.Native.Nat.{ℕ, ◌+◌, ◌-◌, ◌*◌, ◌≤◌}
 use mathlib.Core.Path.{◌≡◌, refl, sym, ap, ap₂, subst, ◌∙◌}
 use mathlib.Core.Bool.{Bool, true, false}
 use mathlib.Core.List.{List, [], ◌∷◌, ◌++◌}
-use mathlib.Core.Option.{Option, none, some}
+use Rattle.std.specs.Prelude.{Some, None, Result, Ok, Err}
+use Rattle.std.proofs.Math.Option as maybe
 use native.Mathlib.Omega.{arith}
 use borrow.Author.Tests.{le-ltb, le-leb}
 use lib.Dec.{ltb}
@@ -11,47 +12,45 @@ use lib.ListN.{length, take, drop, replicate, length-append, length-replicate, r
 use lib.Seq.{take_at, drop_at, sets-eq, length-take-le}
 use lib.Ieee.{Float}
 use Rattle.refusals.specs.Tried.{tried, passed}
-use Rattle.refusals.specs.Said.{Said, refusing, answered}
-use Rattle.refusals.specs.declared.Answer.{Answer}
+use Rattle.refusals.proofs.TriedLaws.{tried_passed}
+use Rattle.refusals.specs.Said.{Said, refusing, answered, refused}
+use Rattle.refusals.specs.Stated.{stated}
 use Rattle.refusals.specs.declared.Refusal.{Refusal}
-use Rattle.readings.specs.Shape.{shape_tests, first_length}
-use Rattle.readings.specs.declared.Shaped.TheVariants as Shaped
-use Rattle.costs.specs.declared.CostFunction.{CostFunction}
+use Rattle.readings.specs.Shape.{shape_tests, first_length, channels}
 use Rattle.costs.specs.declared.Penalty.{Penalty}
 use Rattle.search_answer.specs.Tests.{bad_penalty, short_room, room_tests, search_tests}
-use Rattle.search_answer.proofs.AdmissionLaws.{shapely, passed_channels}
+use Rattle.search_answer.proofs.AdmissionLaws.{shapely}
 use Rattle.readings.specs.Shape.{shaped_as}
 use Rattle.search_rules.specs.Limits.{least_minimum, slot_floats}
 use Rattle.search_rules.specs.Room.{cuts_for, floats_for, indices_for, room_fits}
 use Rattle.search_answer.specs.Outcome.{Areas, found_outcome, outcome_by}
-use Rattle.search_answer.specs.Outcome as Search
 use Rattle.pelt.specs.declared.Pelt.{Pelt}
 use Rattle.pelt.specs.Detected.{with_min_segment_len, detected}
 use Rattle.cuts_answer.specs.Answer.{program_slots, output_bytes, strict_tests, strict_cuts, cuts_said, request_said, output, printed}
-use Rattle.cuts_input.specs.Form.{Request, request_of}
+use Rattle.cuts_input.specs.Form.{request_of}
+use Rattle.cuts_input.specs.declared.Request.{Request}
 use Rattle.cuts_output.specs.Lines.{text}
-use Rattle.cuts_output.specs.Written.{Front}
-use Rattle.cuts_answer.specs.Inner.Held.{asked, said_by, HasCuts}
-use Rattle.cuts_answer.specs.declared.Printed.{Printed}
+use Rattle.cuts_output.specs.Written.{Front, shown}
+use Rattle.cuts_output.proofs.LineLaws.{cuts_shown, refusal_shown}
+use Rattle.cuts_input.specs.Parsed.{ParsedFrom}
+use Rattle.cuts_input.specs.declared.Parsed.{Parsed}
+use Rattle.cuts_input.proofs.ParsedLaws.{request_as, parsed_asks, RequestFits, parsed_fits}
+use Rattle.cuts_answer.specs.Inner.Held.{asked, Says}
 
 -- ---- the cuts in the front of the area are those that are found, and a refusal is the same
-outcome_said : (ts : List (Bool × Refusal)) (found : Option (List ℕ)) (before : Areas) → let o = outcome_by ts found before in HasCuts o.0 o.1.cuts × (said_by o.0 o.1.cuts ≡ tried refusing ts (cuts_said found))
+outcome_said : (ts : List (Bool × Refusal)) (found : maybe.Option (List ℕ)) (before : Areas) → let o = outcome_by ts found before in Says o.0 o.1.cuts (tried refusing ts (cuts_said found))
 unfolding outcome_by found_outcome tried cuts_said
-outcome_said [] none before = (tt, refl)
-outcome_said [] (some cuts) before =
+outcome_said [] maybe.none before = record { has_cuts = tt; says = refl }
+outcome_said [] (maybe.some cuts) before =
     let rest = drop (length cuts) before.cuts in
-    (rw (length-append cuts rest) (omega arith), ap answered (take_at cuts rest (length cuts) refl))
-outcome_said ((true, r) ∷ ts) found before = (tt, refl)
+    record { has_cuts = rw (length-append cuts rest) (omega arith); says = ap answered (take_at cuts rest (length cuts) refl) }
+outcome_said ((true, r) ∷ ts) found before = record { has_cuts = tt; says = refl }
 outcome_said ((false, r) ∷ ts) found before = outcome_said ts found before
 
-pub left_said : (ts : List (Bool × Refusal)) (found : Option (List ℕ)) (before after : Areas) (r : Answer) → ◌≡◌ {A = Answer × Areas} (r, after) (outcome_by ts found before)
-    → HasCuts r after.cuts × (said_by r after.cuts ≡ tried refusing ts (cuts_said found))
-left_said ts found before after r e = subst (λ (o : Answer × Areas). HasCuts o.0 o.1.cuts × (said_by o.0 o.1.cuts ≡ tried refusing ts (cuts_said found))) (sym e) (outcome_said ts found before)
+left_said : (ts : List (Bool × Refusal)) (found : maybe.Option (List ℕ)) (before after : Areas) (r : Result ℕ Refusal) → ◌≡◌ {A = Result ℕ Refusal × Areas} (r, after) (outcome_by ts found before) → Says r after.cuts (tried refusing ts (cuts_said found))
+left_said ts found before after r e = subst (λ (o : Result ℕ Refusal × Areas). Says o.0 o.1.cuts (tried refusing ts (cuts_said found))) (sym e) (outcome_said ts found before)
 
 -- ---- the room is enough
-pub has_cuts : {r : Answer} {count : ℕ} (cuts : List ℕ) → r ≡ Answer.Count count → HasCuts r cuts → count ≤ length cuts
-has_cuts cuts e h = subst (λ (x : Answer). HasCuts x cuts) e h
-
 pub cuts_room : (count : ℕ) (cuts : List ℕ) {size : ℕ} → count ≤ length cuts → length cuts ≤ 515 → output_bytes ≤ size → 26 + 21 * length (take count cuts) ≤ size
 cuts_room count cuts h l m = omega (arith, length-take-le count cuts h, h, l, m)
 
@@ -86,38 +85,49 @@ same_tests penalty m run lengths d e f s h q =
   where
     enough : passed (shape_tests lengths (length run)) ≡ true → short_room (first_length lengths) (length lengths) 515 4138 3093 ≡ false
     enough p =
-        let g = shapely run lengths (passed_channels (shape_tests lengths (length run)) (Shaped.Channels (length lengths) (first_length lengths)) p) in
+        let g = shapely run lengths (channels (length lengths) (first_length lengths)) (tried_passed Err (shape_tests lengths (length run)) _ p) in
         let n = first_length lengths in
         let k = length lengths in
         let few : n ≤ 1030 = omega (arith, first_few lengths, g.fill, h) in
         roomy n k 515 4138 3093 (omega (arith, few)) (room_product n k (length run) g.fill h g.few few) (omega (arith, few))
 
-detected_said : (cost : CostFunction) (penalty : Penalty) (m : ℕ) (run : List Float) (lengths : List ℕ) (before after : Areas) (r : Answer)
-    → length run ≤ 1030 → length before.cuts ≡ 515 → length before.floats ≡ 4138 → length before.indices ≡ 3093 → length before.pool ≡ slot_floats * program_slots
-    → ◌≡◌ {A = Answer × Areas} (r, after) (Search.detected true cost penalty m run lengths before) → said_by r after.cuts ≡ request_said (some (asked cost penalty m run lengths))
+pub searched_said : (p : Pelt) (q : Request) (run : List Float) (lengths : List ℕ) (before after : Areas) (r : Result ℕ Refusal)
+    → p ≡ with_min_segment_len q.cost q.penalty q.min_segment_len → length run ≤ 1030 → length before.cuts ≡ 515 → length before.floats ≡ 4138 → length before.indices ≡ 3093 → length before.pool ≡ slot_floats * program_slots
+    → ◌≡◌ {A = Result ℕ Refusal × Areas} (r, after) (detected true p run lengths before) → Says r after.cuts (request_said (Some (asked q run lengths)))
 unfolding request_said strict_tests strict_cuts
-detected_said cost penalty m run lengths before after r h a b c d l =
+searched_said p q run lengths before after r e h a b c d l =
     let n = first_length lengths in
     let k = length lengths in
-    (left_said _ _ before after r (rw (a, b, c, d) at l)).1
-    ∙ same_tests penalty m run lengths (cuts_for n) (floats_for n k) (indices_for n) _ h (roomy n k (cuts_for n) (floats_for n k) (indices_for n) (omega arith) (omega arith) (omega arith))
+    let s = left_said _ _ before after r (rw (a, b, c, d) at (l ∙ ap (λ (x : Pelt). detected true x run lengths before) e)) in
+    record {
+      has_cuts = s.has_cuts;
+      says = s.says ∙ same_tests q.penalty q.min_segment_len run lengths (cuts_for n) (floats_for n k) (indices_for n) _ h (roomy n k (cuts_for n) (floats_for n k) (indices_for n) (omega arith) (omega arith) (omega arith));
+    }
 
-pub searched_said : (p : Pelt) {cost : CostFunction} {penalty : Penalty} {m : ℕ} (run : List Float) (lengths : List ℕ) (before after : Areas) (r : Answer)
-    → p ≡ with_min_segment_len cost penalty m → length run ≤ 1030 → length before.cuts ≡ 515 → length before.floats ≡ 4138 → length before.indices ≡ 3093 → length before.pool ≡ slot_floats * program_slots
-    → ◌≡◌ {A = Answer × Areas} (r, after) (detected true p run lengths before) → said_by r after.cuts ≡ request_said (some (asked cost penalty m run lengths))
-searched_said p {cost} {penalty} {m} run lengths before after r e h a b c d l =
-    detected_said cost penalty m run lengths before after r h a b c d (l ∙ ap (λ (q : Pelt). detected true q run lengths before) e)
+-- ---- the request
+-- no request is refusal 10
+pub form_says : {s : List ℕ} {p : Parsed} (cuts : List ℕ) → ParsedFrom s p → p.request ≡ None → Says (Err Refusal.Form) cuts (request_said (request_of s))
+unfolding request_said
+form_says {s} {p} cuts h e = record { has_cuts = tt; says = ap request_said (ap (request_as p.run p.lengths) (sym e) ∙ parsed_asks h) }
 
-pub prefix_short : (n : ℕ) (xs : List Float) {m : ℕ} → n ≤ length xs → length xs ≡ m → length (take n xs) ≤ m
-prefix_short n xs h e = omega (arith, length-take-le n xs h, h, e)
+module _ {s : List ℕ} {p : Parsed} {q : Request} (h : ParsedFrom s p) (e : p.request ≡ Some q) where
+  pub asked_fits : (q.readings ≤ length p.run) × (q.channels ≤ length p.lengths)
+  asked_fits = subst (RequestFits p.run p.lengths) e (parsed_fits h)
+
+  pub asked_of : request_of s ≡ Some (asked q (take q.readings p.run) (take q.channels p.lengths))
+  asked_of = sym (parsed_asks h) ∙ ap (request_as p.run p.lengths) e
 
 -- ---- the whole output
 pub front_as : {xs ys : List ℕ} {out out' : List ℕ} {next : ℕ} → xs ≡ ys → Front xs out out' next → Front ys out out' next
 front_as {xs} {ys} {out} {out'} {next} e p = subst (λ (x : List ℕ). Front x out out' next) e p
 
-pub output_of : (input : List ℕ) {q : Option Request} → q ≡ request_of input → text (request_said q) ≡ output input
+pub cuts_printed : (input : List ℕ) (count : ℕ) (cuts : List ℕ) {out out' : List ℕ} {next : ℕ} → Says (Ok count) cuts (request_said (request_of input)) → length cuts ≡ 515 → output_bytes ≤ length out → Front (shown (answered (take count cuts)) (length out)) out out' next → Front (output input) out out' next
 unfolding output
-output_of input e = ap (λ (x : Option Request). text (request_said x)) e
+cuts_printed input count cuts h l m f = front_as (sym (cuts_shown _ _ (cuts_room count cuts h.has_cuts (omega (arith, l)) m)) ∙ ap text h.says) f
+
+pub refusal_printed : (input : List ℕ) (r : Refusal) (cuts : List ℕ) {out out' : List ℕ} {next : ℕ} → Says (Err r) cuts (request_said (request_of input)) → output_bytes ≤ length out → Front (shown (refused (stated r)) (length out)) out out' next → Front (output input) out out' next
+unfolding output
+refusal_printed input r cuts h m f = front_as (sym (refusal_shown _ _ (omega (arith, m))) ∙ ap text h.says) f
 
 zeros_behind : (n m : ℕ) → n ≤ m → ◌≡◌ {A = List ℕ} (drop n (replicate m 0)) (replicate (m - n) 0)
 zeros_behind n m h =
@@ -133,7 +143,3 @@ answered_by input {bytes} {n} p =
     (p.written.area ∙ sets-eq (output input) (replicate output_bytes 0) 0 (omega (arith, e, l, length-replicate {A = ℕ} output_bytes 0)) ∙ ap (λ (k : ℕ). output input ++ drop {A = ℕ} k (replicate output_bytes 0)) z
     ∙ ap (λ (r : List ℕ). output input ++ r) (zeros_behind (length (output input)) output_bytes (omega (arith, e, l))))
     e
-
--- the output is a part of the bytes
-pub answer_inside : (input : List ℕ) {r : Printed} → r ≡ printed input → r.length ≤ length r.bytes
-answer_inside input e = rw (e, length-append (output input) (replicate (output_bytes - length (output input)) 0)) (omega arith)

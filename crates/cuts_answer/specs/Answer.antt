@@ -1,6 +1,6 @@
 -- What the program answers to its input. Rules 7.2 and 7.3. Definitions only.
-use Rattle.std.specs.Prelude.{ℕ, ◌-◌, Bool, true, List, ◌++◌, length, replicate}
-use Rattle.std.proofs.Math.Option.{Option, none, some}
+use Rattle.std.specs.Prelude.{ℕ, ◌-◌, Bool, true, List, ◌++◌, length, replicate, Option, Some, None}
+use Rattle.std.proofs.Math.Option as maybe
 use Rattle.refusals.specs.Tried.{tried}
 use Rattle.refusals.specs.Said.{Said, refusing, answered}
 use Rattle.refusals.specs.declared.Refusal.{Refusal}
@@ -28,18 +28,18 @@ strict_tests q =
     search_tests true q.settings.penalty q.settings.m q.channels.run q.channels.lengths (cuts_for n) (floats_for n k) (indices_for n)
 
 -- the cuts that it finds, or 9
-unfoldable pub strict_cuts : Request → Option (List ℕ)
+unfoldable pub strict_cuts : Request → maybe.Option (List ℕ)
 strict_cuts q = cuts_found q.settings.cost q.settings.penalty q.settings.m q.channels.run (first_length q.channels.lengths) (length q.channels.lengths) program_slots
 
 -- what is said of them: the cuts themselves, or refusal 9
-unfoldable pub cuts_said : Option (List ℕ) → Said
-cuts_said (some cuts) = answered cuts
-cuts_said none = refusing Refusal.Pool
+unfoldable pub cuts_said : maybe.Option (List ℕ) → Said
+cuts_said (maybe.some cuts) = answered cuts
+cuts_said maybe.none = refusing Refusal.Pool
 
 -- 10 is tried first; then the search
 unfoldable pub request_said : Option Request → Said
-request_said none = refusing Refusal.Form
-request_said (some q) = tried refusing (strict_tests q) (cuts_said (strict_cuts q))
+request_said None = refusing Refusal.Form
+request_said (Some q) = tried refusing (strict_tests q) (cuts_said (strict_cuts q))
 
 -- the bytes that go out for the bytes `input` that come in
 unfoldable pub output : List ℕ → List ℕ

@@ -1,17 +1,14 @@
 // The search that an input asks for, and its answer in lines.
-ghost use Rattle.std.specs.Prelude.{◌≤◌, length};
-ghost use Rattle.std.proofs.Math.Option.{some};
-ghost use Rattle.cuts_output.specs.Lines.{text};
+ghost use Rattle.std.specs.Prelude.{◌≡◌, ◌≤◌, length, Some};
 ghost use Rattle.cuts_output.specs.Written.{Front};
-ghost use Rattle.cuts_input.specs.Form.{input_readings};
+ghost use Rattle.cuts_input.specs.Form.{input_readings, request_of};
 ghost use Rattle.cuts_answer.specs.Answer.{output_bytes, request_said, output};
-ghost use Rattle.cuts_answer.specs.Inner.Held.{asked, said_by, HasCuts};
+ghost use Rattle.cuts_answer.specs.Inner.Held.{asked, Says};
 
-use costs::{CostFunction, Penalty};
 use cuts_input::{Request, read_request};
 use cuts_output::{print_cuts, print_refusal};
 use pelt::Pelt;
-use refusals::{Answer, Refusal};
+use refusals::Refusal;
 
 // The room that a search of as many readings as an input may hold asks: their cuts, their work floats
 // in whichever channels they stand, their work indices; and the slots that the program lends.
@@ -23,45 +20,45 @@ const INDICES: usize = 3093;
 
 const SLOTS: usize = 40;
 
-// Writes `answer` to the front of `out` in lines, with the cuts that stand in the front of `cuts`, and
-// says how many bytes it wrote.
-fn print_searched(answer: Answer, cuts: &[usize], out: &mut [u8]) -> usize
-    requires { HasCuts answer cuts.now × (length cuts.now ≤ 515) × (output_bytes ≤ length out.old) }
-    ensures { Front (text (said_by answer cuts.now)) out.old out.new result }
-{
-    match answer {
-        Answer::Count(count) => print_cuts(&cuts[..count], out),
-        Answer::Refused(refusal) => print_refusal(refusal, out),
-    }
-}
-
-// Lends the strict search of `readings` in channels of these `lengths` room enough for every input, and
-// writes its answer to the front of `out`.
-fn print_search(
-    cost: CostFunction,
-    penalty: Penalty,
-    min_segment_len: usize,
+// Lends the strict search that `request` asks for, of `readings` in channels of these `lengths`, room
+// enough for every input. The cuts go to the front of `cuts`, and the answer is how many there are.
+fn search(
+    request: Request,
     readings: &[f64],
     lengths: &[usize],
-    out: &mut [u8],
-) -> usize
-    requires { (length readings.now ≤ input_readings) × (output_bytes ≤ length out.old) }
-    ensures { Front (text (request_said (some (asked cost penalty min_segment_len readings.now lengths.now)))) out.old out.new result }
+    cuts: &mut [usize; CUTS],
+) -> Result<usize, Refusal>
+    requires { length readings.now ≤ input_readings }
+    ensures { Says result cuts.new (request_said (Some (asked request readings.now lengths.now))) }
 {
-    let mut cuts = [0; CUTS];
     let mut floats = [0.0; FLOATS];
     let mut indices = [0; INDICES];
     let mut pool = [0.0; Pelt::SLOT_FLOATS * SLOTS];
-    let search = Pelt::with_min_segment_len(cost, penalty, min_segment_len);
-    let answer = search.detect_multi_strict(
+    Pelt::with_min_segment_len(
+        request.cost,
+        request.penalty,
+        request.min_segment_len,
+    ).detect_multi_strict(
         readings,
         lengths,
-        &mut cuts,
+        cuts,
         &mut floats,
         &mut indices,
         &mut pool,
-    );
-    print_searched(answer, &cuts, out)
+    )
+}
+
+// The answer to `input`: how many cuts there are, which go to the front of `cuts`, or a refusal.
+fn find_cuts(input: &[u8], cuts: &mut [usize; CUTS]) -> Result<usize, Refusal>
+    ensures { Says result cuts.new (request_said (request_of input.now)) }
+{
+    let parsed = read_request(input);
+    let Some(request) = parsed.request else {
+        return Err(Refusal::Form);
+    };
+    let readings = &parsed.run[..request.readings];
+    let lengths = &parsed.lengths[..request.channels];
+    search(request, readings, lengths, cuts)
 }
 
 // Writes what the program answers to `input` to the front of `out`, and says how many bytes that is.
@@ -69,25 +66,9 @@ pub(crate) fn print_answer(input: &[u8], out: &mut [u8]) -> usize
     requires { output_bytes ≤ length out.old }
     ensures { Front (output input.now) out.old out.new result }
 {
-    let parsed = read_request(input);
-    let run = parsed.run;
-    let lengths = parsed.lengths;
-    let request = parsed.request;
-    match request {
-        Request::Search {
-            cost,
-            penalty,
-            min_segment_len,
-            readings,
-            channels,
-        } => print_search(
-            cost,
-            penalty,
-            min_segment_len,
-            &run[..readings],
-            &lengths[..channels],
-            out,
-        ),
-        Request::Wrong => print_refusal(Refusal::Form, out),
+    let mut cuts = [0; CUTS];
+    match find_cuts(input, &mut cuts) {
+        Ok(count) => print_cuts(&cuts[..count], out),
+        Err(refusal) => print_refusal(refusal, out),
     }
 }

@@ -1,5 +1,6 @@
 pub mod NumberLaws
-pub mod FormLaws
+pub mod AreaLaws
+pub mod ChannelLaws
 pub mod RequestLaws
 pub mod ParsedLaws
 pub mod Examples

@@ -8,9 +8,8 @@
 #![tactic(auto)]
 
 mod channels;
-mod cursor;
+mod field;
 mod input;
-mod number;
 mod settings;
 
 use costs::{CostFunction, Penalty};
@@ -24,25 +23,22 @@ const READINGS: usize = 1030;
 
 const LENGTHS: usize = 2746;
 
-// What an input asks for: a search of `readings` readings in `channels` channels, by its settings, or
-// `Wrong` where the input is not of the form.
+// What an input asks for: a search of `readings` readings in `channels` channels, by its settings.
 #[derive(Clone, Copy)]
-pub enum Request {
-    Search {
-        cost: CostFunction,
-        penalty: Penalty,
-        min_segment_len: usize,
-        readings: usize,
-        channels: usize,
-    },
-    Wrong,
+pub struct Request {
+    pub cost: CostFunction,
+    pub penalty: Penalty,
+    pub min_segment_len: usize,
+    pub readings: usize,
+    pub channels: usize,
 }
 
 // A `request` with its readings at the front of `run`, the lengths of its channels at the front of
-// `lengths`, and zeros behind them.
+// `lengths`, and zeros behind them; none, and zeros alone, where the input is not of the form. The areas
+// have a fixed room, since nothing is allocated, and the request says how much of it is filled.
 #[derive(Drop)]
 pub struct Parsed {
-    pub request: Request,
+    pub request: Option<Request>,
     pub run: [f64; READINGS],
     pub lengths: [usize; LENGTHS],
 }

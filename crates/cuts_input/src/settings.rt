@@ -1,119 +1,72 @@
 // The settings: the fields with tags 1, 2 and 3.
-ghost use Rattle.std.specs.Prelude.{◌≤◌, length};
-ghost use Rattle.cuts_input.specs.Inner.Held.{CostIn, PenaltyIn, LeastIn, SettingsIn};
+ghost use Rattle.std.specs.Prelude.{◌≡◌, ◌≤◌, length, MatchOption, IfSome, None};
+ghost use Rattle.cuts_input.specs.Form.{cost_of, penalty_of, least_of, settings_of};
+ghost use Rattle.cuts_input.specs.Inner.Held.{Reads, settings};
 
-use crate::cursor::{Cursor, Field};
-use crate::number::number;
+use crate::field::field;
 use costs::{CostFunction, Penalty};
 
-// What a field of the settings sets, and the cursor past it; or `Wrong`.
+// The settings of a search.
 #[derive(Clone, Copy)]
-pub enum CostField {
-    Set(CostFunction, Cursor),
-    Wrong,
+pub struct Settings {
+    pub cost: CostFunction,
+    pub penalty: Penalty,
+    pub min_segment_len: usize,
 }
 
-#[derive(Clone, Copy)]
-pub enum PenaltyField {
-    Set(Penalty, Cursor),
-    Wrong,
-}
-
-#[derive(Clone, Copy)]
-pub enum LeastField {
-    Set(usize, Cursor),
-    Wrong,
-}
-
-#[derive(Clone, Copy)]
-pub enum Settings {
-    Set {
-        cost: CostFunction,
-        penalty: Penalty,
-        min_segment_len: usize,
-        next: Cursor,
-    },
-    Wrong,
-}
-
-// The cost function that the field of `input` at `cursor` sets: tag 1, one byte, 0 for L2 or 1 for
-// Normal.
-fn cost_field(input: &[u8], cursor: Cursor) -> CostField
-    requires { cursor.at ≤ length input.now }
-    ensures { CostIn input.now cursor.at result }
+// The cost function that `value` means: one byte, 0 for L2 or 1 for Normal.
+#[tactic(auto, using(std::proofs::lemmas::Bool::Decides::nat_tests), unfolding(crate::specs::Form::cost_of))]
+fn cost_of(value: &[u8]) -> Option<CostFunction>
+    ensures { result ≡ cost_of value.now }
 {
-    let field = cursor.field(input, 1);
-    let Field::Value { start, size, next } = field else {
-        return CostField::Wrong;
+    let &[byte] = value else {
+        return None;
     };
-    if size == 1 {
-        let byte = input[start];
-        if byte == 0 {
-            return CostField::Set(CostFunction::L2, next);
-        }
-        if byte == 1 {
-            return CostField::Set(CostFunction::Normal, next);
-        }
+    match byte {
+        0 => Some(CostFunction::L2),
+        1 => Some(CostFunction::Normal),
+        _ => None,
     }
-    CostField::Wrong
 }
 
-// The penalty that the field of `input` at `cursor` sets: tag 2, empty for BIC or 8 bytes of a custom
-// value.
-fn penalty_field(input: &[u8], cursor: Cursor) -> PenaltyField
-    requires { cursor.at ≤ length input.now }
-    ensures { PenaltyIn input.now cursor.at result }
+// The penalty that `value` means: empty for BIC, or 8 bytes of a custom value.
+#[tactic(auto, using(std::proofs::lemmas::Bool::Decides::nat_tests, crate::proofs::NumberLaws::word_is), unfolding(crate::specs::Form::penalty_of))]
+fn penalty_of(value: &[u8]) -> Option<Penalty>
+    ensures { result ≡ penalty_of value.now }
 {
-    let field = cursor.field(input, 2);
-    let Field::Value { start, size, next } = field else {
-        return PenaltyField::Wrong;
-    };
-    if size == 0 {
-        return PenaltyField::Set(Penalty::Bic, next);
+    if value.is_empty() {
+        return Some(Penalty::Bic);
     }
-    if size == 8 {
-        let value = floats::from_bits(number(input, start, 8));
-        return PenaltyField::Set(Penalty::Custom(value), next);
-    }
-    PenaltyField::Wrong
+    let word = value.as_array::<8>()?;
+    Some(Penalty::Custom(floats::from_bits(u64::from_be_bytes(*word))))
 }
 
-// The minimum length that the field of `input` at `cursor` sets: tag 3, two bytes.
-fn least_field(input: &[u8], cursor: Cursor) -> LeastField
-    requires { cursor.at ≤ length input.now }
-    ensures { LeastIn input.now cursor.at result }
+// The minimum length that `value` means: two bytes.
+#[tactic(auto, using(std::proofs::lemmas::Bool::Decides::nat_tests, crate::proofs::NumberLaws::pair_is), unfolding(crate::specs::Form::least_of))]
+fn least_of(value: &[u8]) -> Option<usize>
+    ensures { result ≡ least_of value.now }
 {
-    let field = cursor.field(input, 3);
-    let Field::Value { start, size, next } = field else {
-        return LeastField::Wrong;
-    };
-    if size == 2 {
-        return LeastField::Set(number(input, start, 2) as usize, next);
-    }
-    LeastField::Wrong
+    let word = value.as_array::<2>()?;
+    Some(usize::from(u16::from_be_bytes(*word)))
 }
 
 // The settings that the three fields at the front of `input` make up, in the order of their tags, and
-// the cursor past them.
-pub(crate) fn read_settings(input: &[u8]) -> Settings
-    ensures { SettingsIn input.now result }
+// the bytes behind them.
+#[tactic(auto, unfolding(crate::specs::Form::settings_of, crate::specs::Form::field_of))]
+pub(crate) fn read_settings(input: &[u8]) -> Option<(Settings, &[u8])>
+    ensures value { MatchOption result (settings_of input.now ≡ None) (λ p. Reads (settings_of input.now) (settings p.0) p.1.now) }
+    ensures size { IfSome result (λ p. length p.1.now ≤ length input.now) }
 {
-    let first = cost_field(input, Cursor { at: 0 });
-    let CostField::Set(cost, second_at) = first else {
-        return Settings::Wrong;
-    };
-    let second = penalty_field(input, second_at);
-    let PenaltyField::Set(penalty, third_at) = second else {
-        return Settings::Wrong;
-    };
-    let third = least_field(input, third_at);
-    let LeastField::Set(min_segment_len, next) = third else {
-        return Settings::Wrong;
-    };
-    Settings::Set {
+    let (first, behind) = field(input, 1)?;
+    let cost = cost_of(first)?;
+    let (second, behind) = field(behind, 2)?;
+    let penalty = penalty_of(second)?;
+    let (third, behind) = field(behind, 3)?;
+    let min_segment_len = least_of(third)?;
+    let settings = Settings {
         cost,
         penalty,
         min_segment_len,
-        next,
-    }
+    };
+    Some((settings, behind))
 }

@@ -4,13 +4,15 @@ use mathlib.Core.Path.{◌≡◌, refl, sym, ap, ◌∙◌}
 use mathlib.Core.Bool.{Bool, true, false}
 use mathlib.Core.List.{List, [], ◌∷◌, ◌++◌, append-nil, append_assoc}
 use native.Mathlib.Omega.{arith}
+use native.Mathlib.Numerals.{add-one}
 use native.Mathlib.Nat.{not-suc-le-zero, not-le_of_lt, pow-suc}
 use borrow.Author.Tests.{le-leb, lt-leb, lt-ltb, le-ltb, ltb-false}
 use lib.Dec.{ltb}
 use Rattle.refusals.specs.Stated.{Stated, stated}
 use Rattle.refusals.specs.declared.Refusal.{Refusal}
-use lib.ListN.{length, set, length-append}
-use lib.Seq.{sets, length-sets, append_snoc}
+use lib.ListN.{length, get_or, take, drop, set, length-append}
+use borrow.Rule.Slice.PartMut.{put_mid}
+use lib.Seq.{sets, sets-eq, length-sets, append_snoc, drop-drop, take-suc}
 use Rattle.refusals.specs.Said.{Said, answered, refused}
 use Rattle.cuts_output.specs.Lines.{space, newline, cuts_word, refused_word, digit, decimal_by, decimal, spaced, lines, text}
 use Rattle.cuts_output.specs.Written.{Written, Front, room_of, shown}
@@ -34,7 +36,7 @@ places_enough (suc k) (suc j) n h l =
     let g = ltb-false n 10 e in
     places_enough k j (n / 10) (omega (arith, g, h)) (omega (arith, g, l))
 
-pub decimal_digit : (n : ℕ) → n < 10 → decimal n ≡ digit n ∷ []
+decimal_digit : (n : ℕ) → n < 10 → decimal n ≡ digit n ∷ []
 unfolding decimal decimal_by
 decimal_digit n h = ap (λ (b : Bool). elim b [ true ↦ digit n ∷ [] | false ↦ decimal_by n (n / 10) ++ (digit (n % 10) ∷ []) ]) (lt-ltb n 10 h)
 
@@ -51,12 +53,9 @@ decimal_more n h =
 decimal_longer : (n : ℕ) → 10 ≤ n → length (decimal n) ≡ length (decimal (n / 10)) + 1
 decimal_longer n h = ap length (decimal_more n h) ∙ length-append (decimal (n / 10)) (digit (n % 10) ∷ [])
 
--- where a number has room, its other digits have it, and then the last one
+-- where a number has room, its digits but the last have it
 pub digits_fit : (at n : ℕ) {l : ℕ} → 10 ≤ n → at + length (decimal n) ≤ l → at + length (decimal (n / 10)) ≤ l
 digits_fit at n h f = omega (arith, decimal_longer n h, f)
-
-pub last_fits : (at n : ℕ) {next l m : ℕ} → 10 ≤ n → at + length (decimal n) ≤ l → next ≡ at + length (decimal (n / 10)) → m ≡ l → next < m
-last_fits at n h f e k = omega (arith, decimal_longer n h, f, e, k)
 
 -- a number below 10^(k + 1) has at most k + 1 digits
 short_more : (k j n : ℕ) (b : Bool) → (b ≡ false → length (decimal_by j (n / 10)) ≤ k) → length {A = ℕ} (elim b [ true ↦ digit n ∷ [] | false ↦ decimal_by j (n / 10) ++ (digit (n % 10) ∷ []) ]) ≤ suc k
@@ -86,21 +85,19 @@ pub lines_one : (n : ℕ) → decimal n ++ (newline ∷ []) ≡ lines (n ∷ [])
 unfolding lines
 lines_one n = refl
 
-pub line_short : (n : ℕ) → n < 2 ^ 64 → length (lines (n ∷ [])) ≤ 21
-line_short n h = rw (← lines_one n, length-append (decimal n) (newline ∷ [])) (omega (arith, decimal_short n h))
-
-pub spaced_short : (n : ℕ) → n < 2 ^ 64 → length (spaced (n ∷ [])) ≤ 21
-spaced_short n h = rw (← spaced_one n) (omega (arith, decimal_short n h))
-
 pub spaced_append : (xs ys : List ℕ) → spaced (xs ++ ys) ≡ spaced xs ++ spaced ys
 unfolding spaced
 spaced_append [] ys = refl
 spaced_append (x ∷ xs) ys = ap (λ (r : List ℕ). space ∷ decimal x ++ r) (spaced_append xs ys) ∙ ap (λ (r : List ℕ). space ∷ r) (sym (append_assoc (decimal x) (spaced xs) (spaced ys)))
 
-pub lines_append : (xs ys : List ℕ) → lines (xs ++ ys) ≡ lines xs ++ lines ys
+lines_append : (xs ys : List ℕ) → lines (xs ++ ys) ≡ lines xs ++ lines ys
 unfolding lines
 lines_append [] ys = refl
 lines_append (x ∷ xs) ys = ap (λ (r : List ℕ). decimal x ++ newline ∷ r) (lines_append xs ys) ∙ sym (append_assoc (decimal x) (newline ∷ lines xs) (lines ys))
+
+-- the lines of one more of `cuts`
+pub lines_more : (cuts : List ℕ) (i : ℕ) → i < length cuts → lines (take (i + 1) cuts) ≡ lines (take i cuts) ++ lines (get_or cuts i 0 ∷ [])
+lines_more cuts i h = rw (add-one, take-suc cuts i 0 h) (lines_append (take i cuts) (get_or cuts i 0 ∷ []))
 
 -- ---- what has been written
 sets_append : (l : List ℕ) (i : ℕ) (xs ys : List ℕ) → sets l i (xs ++ ys) ≡ sets (sets l i xs) (i + length xs) ys
@@ -122,11 +119,12 @@ written_then {xs} {ys} {at} {next} {last} {a} {b} {c} p q =
 pub written_as : {xs ys : List ℕ} {at next : ℕ} {a b : List ℕ} → xs ≡ ys → Written xs at a b next → Written ys at a b next
 written_as {xs} {ys} {at} {next} {a} {b} e p = record { place = rw (← e) p.place; area = rw (← e) p.area }
 
-pub written_at : {xs : List ℕ} {at next last : ℕ} {a b : List ℕ} → next ≡ last → Written xs at a b next → Written xs at a b last
-written_at {xs} {at} {next} {last} {a} {b} e p = record { place = rw (← e) p.place; area = p.area }
-
 pub written_long : {xs : List ℕ} {at next : ℕ} {a b : List ℕ} → Written xs at a b next → length b ≡ length a
 written_long {xs} {at} {next} {a} {b} p = rw p.area (length-sets a at xs)
+
+-- a word copied over a part
+pub written_part : (word out : List ℕ) (at k : ℕ) → k ≡ length word → at + length word ≤ length out → put_mid at k out word ≡ sets out at word
+written_part word out at k e h = rw (e, drop-drop (length word) at out) (sym (sets-eq word out at h ∙ append_assoc (take at out) word (drop (at + length word) out)))
 
 -- ---- the two forms of an answer, piece by piece
 pub cuts_text : (cuts : List ℕ) {count : ℕ} → length cuts ≡ count → cuts_word ++ spaced (count ∷ []) ++ (newline ∷ []) ++ lines cuts ≡ text (answered cuts)

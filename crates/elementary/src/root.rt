@@ -14,12 +14,10 @@ fn root_by_digits(square: u64) -> u64
     requires { (2 ^ 52 ≤ square) × (square < 2 ^ 54) }
     ensures { Near (square * 2 ^ 52) result }
 {
-    let mut left = 53u64;
     let mut weight = 0x20_0000_0000_0000u64;
     let mut root = 0u64;
     let mut rest = square;
-    while 0 < left {
-        left -= 1;
+    for _turn in 0..53u64 {
         weight = weight / 2;
         let trial = 2 * root + weight;
         let difference = std::num::wrapping_sub_u64(rest, trial);
@@ -44,6 +42,17 @@ fn guess(x: f64, pattern: u64) -> f64
     root + root * error * (0.5 + 0.375 * error)
 }
 
+// The root of `guess` * `guess` + `distance` as a whole number, rounded to the nearest: `guess`,
+// `guess + 1` or `guess + 2`.
+fn beside(guess: u64, distance: u64) -> u64
+    requires small { guess ≤ 2 ^ 53 }
+    requires close { distance ≤ 5 * guess + 6 }
+    requires some { 0 < guess * guess + distance }
+    ensures { Near (guess * guess + distance) result }
+{
+    guess + u64::from(guess < distance) + u64::from(3 * guess + 2 < distance)
+}
+
 // The root of `square` * 2^52 as a whole number, rounded to the nearest: `guess`, `guess + 1` or
 // `guess + 2`, where the distance of `guess * guess` to `square` * 2^52 says so, and otherwise by the
 // digits. The guess is upper * 2^27 + lower, and the distance is found in three steps, each within 64
@@ -61,14 +70,7 @@ fn settled(square: u64, guess: u64) -> u64
             if middle < 0x8_0000_0000 {
                 let distance = std::num::wrapping_sub_u64(middle * 0x1000_0000, lower * lower);
                 if distance <= 5 * guess + 6 {
-                    let mut root = guess;
-                    if guess < distance {
-                        root += 1;
-                    }
-                    if 3 * guess + 2 < distance {
-                        root += 1;
-                    }
-                    return root;
+                    return beside(guess, distance);
                 }
             }
         }

@@ -1,34 +1,33 @@
 -- At the place that `start` finds and at all later ones the limits are the same: a run of states by it, which also keeps the width while the place stays, shows the chart's own records. Assumes nothing.
-use mathlib.Core.Path.{◌≡◌, refl, sym, ap, subst, ◌∙◌}
+use mathlib.Core.Path.{◌≡◌, refl, sym, ap, subst, ◌∙◌, ap₂}
 use Prim.Native.Nat.{ℕ, zero, suc, ◌+◌, ◌*◌, ◌/◌, ◌%◌, ◌^◌, ◌≤◌, ◌<◌}
 use native.Mathlib.Nat.{mul-le-mul, mul-pos, pow-suc}
 use native.Mathlib.Omega.{arith}
 use mathlib.Core.Bool.{Bool, true, false, not, cond, true≢false}
-use mathlib.Core.List.{List}
+use mathlib.Core.List.{List, [], ◌∷◌, ◌++◌}
 use borrow.Author.Tests.{leb-true, eqb-true}
 use lib.IntN.{pos}
 use lib.Dec.{T, leb, ltb, eqb, lit<}
-use lib.ListN.{length, get_or, set}
+use lib.ListN.{length, get_or}
 use lib.Ieee.{Float, nan, inf, fin, binary64, up, down, round, mul, lt, le, of_int}
 use lib.Ieee.Fits.{down_pos}
 use lib.Ieee.Order.{round_mono}
+use Rattle.std.specs.Prelude.{Result}
+use Rattle.refusals.specs.declared.Refusal.{Refusal}
 use Rattle.floats.specs.Numbers.{◌-ᶠ◌, ◌*ᶠ◌, ◌<ᶠ◌, ◌≤ᶠ◌}
 use Rattle.floats.proofs.Order.Fractions.{le→leq}
 use Rattle.floats.proofs.Order.Laws.{lt→le, not-lt→le, le_transitive}
 use Rattle.elementary.specs.Power.{pow_from, powi}
-use Rattle.charts.specs.Runs.{state_at, record_at, following}
+use Rattle.charts.specs.Outcomes as Outcomes
+use Rattle.charts.specs.Runs as Runs
+use Rattle.charts.specs.Runs.{state_at, following}
 use Rattle.charts.specs.declared.Place.{Place}
-use Rattle.refusals.specs.Tried.{count_of}
-use Rattle.refusals.specs.declared.Answer.{Answer}
-use Rattle.charts.specs.Answers.{admitted_as}
-use Rattle.charts.proofs.Answers.{few_records}
-use Rattle.charts.proofs.Loops.{analyzed_leaves}
-use Rattle.charts.proofs.Runs.{written}
+use Rattle.charts.proofs.Loops.{analyzed_agree, signalled_agree}
 use Rattle.ewma.specs.declared.Ewma.{Ewma}
 use Rattle.ewma.specs.declared.EwmaResult.{EwmaResult}
 use Rattle.ewma.specs.declared.State.{State}
 use Rattle.ewma.specs.declared.Limits.{Limits}
-use Rattle.ewma.specs.Chart.{tests_of, place_after, half_width_at, step_of, Charted, record_of, fresh, next_of, analyzed}
+use Rattle.ewma.specs.Chart.{tests_of, place_after, half_width_at, step_of, Charted, record_of, fresh, next_of, records, signal_of, signalling, analyzed, signalled}
 use Rattle.ewma.specs.Settled.{faint, width_at, settled_from, settled_of, moving_width, width_from, limits_at, limits_after, step_by, shown_of, start_state, next_state, following_state, state_of}
 use Rattle.ewma.proofs.Editions.{place_next, place_within}
 use Rattle.ewma.proofs.Places.{at_most_is}
@@ -212,24 +211,21 @@ module _ (c : Ewma) (xs : List Float) where
       ap (λ (t : State). next_state c t n (get_or xs n nan)) (state_settles n (omega (arith, h)))
       ∙ next_settles c (state_at record_of fresh next_of c xs n) n (place_within c xs n) h (get_or xs n nan)
 
-  written_settles : (n : ℕ) (entry : List EwmaResult) → n ≤ 4096 → written shown_of start_state next_state c xs n entry ≡ written record_of fresh next_of c xs n entry
-  written_settles zero entry h = refl
-  written_settles (suc n) entry h =
-      ap (λ (l : List EwmaResult). set l n (record_at shown_of start_state next_state c xs n)) (written_settles n entry (omega (arith, h)))
-      ∙ ap (λ (s : State). set (written record_of fresh next_of c xs n entry) n s.shown) (state_settles (suc n) h)
+  records_settle : (n : ℕ) → n ≤ 4096 → Runs.records shown_of start_state next_state c xs n ≡ records c xs n
+  records_settle zero h = refl
+  records_settle (suc n) h = ap₂ (λ (l : List EwmaResult) (s : State). l ++ (s.shown ∷ [])) (records_settle n (omega (arith, h))) (state_settles (suc n) h)
 
--- what `analyze` leaves is the chart's own
-pub settled_analyzed : (c : Ewma) (xs : List Float) (entry : List EwmaResult) → let r = admitted_as (tests_of c) (length xs) (length entry) in ◌≡◌ {A = Answer × List EwmaResult} (r, written shown_of start_state next_state c xs (count_of r) entry) (analyzed c xs entry)
-settled_analyzed c xs entry =
-    let r = admitted_as (tests_of c) (length xs) (length entry) in
-    rw (written_settles c xs (count_of r) entry (few_records (tests_of c) (length xs) (length entry))) (analyzed_leaves record_of fresh next_of tests_of c xs entry)
+  points_settle : (n : ℕ) → n ≤ 4096 → Runs.points shown_of start_state next_state c xs signal_of n ≡ signalling c xs n
+  points_settle zero h = refl
+  points_settle (suc n) h = ap₂ (λ (p : List ℕ) (s : State). cond (signal_of s.shown) (p ++ (n ∷ [])) p) (points_settle n (omega (arith, h))) (state_settles (suc n) h)
 
--- and says what they leave
-pub settled_decides : (c : Ewma) (xs : List Float) (entry : List EwmaResult) (r : Answer) (exit : List EwmaResult) → ◌≡◌ {A = Answer × List EwmaResult} (r, exit) (analyzed c xs entry)
-    → let answer = admitted_as (tests_of c) (length xs) (length entry) in (r ≡ answer) × (exit ≡ written shown_of start_state next_state c xs (count_of answer) entry)
-settled_decides c xs entry r exit e =
-    let both = e ∙ sym (settled_analyzed c xs entry) in
-    (ap (λ (o : Answer × List EwmaResult). o.0) both, ap (λ (o : Answer × List EwmaResult). o.1) both)
+-- what both calls come to by the run of states is the chart's own
+module _ (c : Ewma) (xs : List Float) where
+  pub settled_analyzed : (entry : List EwmaResult) → ◌≡◌ {A = Result ℕ Refusal × List EwmaResult} (Outcomes.analyzed (tests_of c) (length xs) (Runs.records shown_of start_state next_state c xs) entry) (analyzed c xs entry)
+  settled_analyzed entry = analyzed_agree (tests_of c) (length xs) (Runs.records shown_of start_state next_state c xs) entry (records c xs) (records_settle c xs)
+
+  pub settled_signalled : (entry : List ℕ) → ◌≡◌ {A = Result ℕ Refusal × List ℕ} (Outcomes.signalled (tests_of c) (length xs) (Runs.points shown_of start_state next_state c xs signal_of (length xs)) entry) (signalled c xs entry)
+  settled_signalled entry = signalled_agree (tests_of c) (length xs) (Runs.points shown_of start_state next_state c xs signal_of (length xs)) entry (signalling c xs (length xs)) (points_settle c xs (length xs))
 
 -- ---- for a loop that carries a state: the record and the place that it has
 abbrev pub placed : State → Charted

@@ -7,10 +7,11 @@ use mathlib.Core.Bool.{Bool, true, false, cond}
 use mathlib.Core.List.{List, [], ◌∷◌, ◌++◌}
 use lib.ListN.{length, get_or}
 use lib.Ieee.{Float, nan}
+use Rattle.std.specs.Prelude.{Result, Ok}
+use Rattle.refusals.specs.declared.Refusal.{Refusal}
 use Rattle.floats.specs.Numbers.{◌+ᶠ◌, ◌-ᶠ◌}
 use Rattle.floats.specs.Finite.{finite}
 use Rattle.refusals.specs.Tried.{count_of}
-use Rattle.refusals.specs.declared.Answer.{Answer}
 use Rattle.charts.specs.Answers.{admitted_as}
 use Rattle.charts.specs.Outcomes as Outcomes
 use Rattle.charts.specs.Runs.{state_at, lent}
@@ -70,8 +71,8 @@ module _ (c : Ewma) (e f : Edition) (xs : List Float) where
       ∙ sym (statistic_moves (under f c) (after (under f c) xs n) n (at xs n))
 
   -- of what `analyze` wrote under both
-  pub analyze_statistics : (entry exit entry' exit' : List EwmaResult) (k k' : ℕ) → ◌≡◌ {A = Answer × List EwmaResult} (Answer.Count k, exit) (analyzed (under e c) xs entry)
-      → ◌≡◌ {A = Answer × List EwmaResult} (Answer.Count k', exit') (analyzed (under f c) xs entry') → (i : ℕ) → i < k → i < k' → (get_or exit i (blank c)).ewma ≡ (get_or exit' i (blank c)).ewma
+  pub analyze_statistics : (entry exit entry' exit' : List EwmaResult) (k k' : ℕ) → ◌≡◌ {A = Result ℕ Refusal × List EwmaResult} (Ok k, exit) (analyzed (under e c) xs entry)
+      → ◌≡◌ {A = Result ℕ Refusal × List EwmaResult} (Ok k', exit') (analyzed (under f c) xs entry') → (i : ℕ) → i < k → i < k' → (get_or exit i (blank c)).ewma ≡ (get_or exit' i (blank c)).ewma
   analyze_statistics entry exit entry' exit' k k' a b i h g =
       ap (λ (r : EwmaResult). r.ewma) ((analyzed_writes record_of fresh next_of (under e c) xs (tests_of (under e c)) entry exit k a).holds i (blank c) h)
       ∙ statistics_agree (suc i)
@@ -133,8 +134,8 @@ module _ (c : Ewma) (e f : Edition) (xs : List Float) where
   signal_points_agree g entry = ap (λ (l : List ℕ). Outcomes.signalled (tests_of c) (length xs) l entry) (points_agree (length xs) g)
 
   -- of the first `n` records that `analyze` wrote, where the first `n` readings are finite
-  pub analyze_fronts_agree : (n : ℕ) → Gapless xs n → (entry exit entry' exit' : List EwmaResult) (k k' : ℕ) → ◌≡◌ {A = Answer × List EwmaResult} (Answer.Count k, exit) (analyzed (under e c) xs entry)
-      → ◌≡◌ {A = Answer × List EwmaResult} (Answer.Count k', exit') (analyzed (under f c) xs entry') → (i : ℕ) → i < n → i < k → i < k' → get_or exit i (blank c) ≡ get_or exit' i (blank c)
+  pub analyze_fronts_agree : (n : ℕ) → Gapless xs n → (entry exit entry' exit' : List EwmaResult) (k k' : ℕ) → ◌≡◌ {A = Result ℕ Refusal × List EwmaResult} (Ok k, exit) (analyzed (under e c) xs entry)
+      → ◌≡◌ {A = Result ℕ Refusal × List EwmaResult} (Ok k', exit') (analyzed (under f c) xs entry') → (i : ℕ) → i < n → i < k → i < k' → get_or exit i (blank c) ≡ get_or exit' i (blank c)
   analyze_fronts_agree n gapless entry exit entry' exit' k k' a b i l h g =
       (analyzed_writes record_of fresh next_of (under e c) xs (tests_of (under e c)) entry exit k a).holds i (blank c) h
       ∙ record_agrees i (λ j m. gapless j (omega (arith, l, m)))
@@ -186,7 +187,7 @@ module _ (c : Ewma) (xs : List Float) where
       (here.0 ∙ ap (λ (half : Float). c.target +ᶠ half) width, here.1 ∙ ap (λ (half : Float). c.target -ᶠ half) width)
 
   -- the same where `analyze` answered with `k` records
-  module _ (entry exit : List EwmaResult) (k : ℕ) (a : ◌≡◌ {A = Answer × List EwmaResult} (Answer.Count k, exit) (analyzed (under Second c) xs entry)) where
+  module _ (entry exit : List EwmaResult) (k : ℕ) (a : ◌≡◌ {A = Result ℕ Refusal × List EwmaResult} (Ok k, exit) (analyzed (under Second c) xs entry)) where
     -- that of the reading at `i`
     shown : (i : ℕ) → i < k → get_or exit i (blank c) ≡ record_at (under Second c) xs i
     shown i h = (analyzed_writes record_of fresh next_of (under Second c) xs (tests_of (under Second c)) entry exit k a).holds i (blank c) h

@@ -8,13 +8,14 @@ use lib.ListN.{get_or}
 use lib.Ieee.{Float, nan, binary64, add, sub, lt}
 use lib.Ieee.Fits.{and_l, and_r}
 use lib.Ieee.Positive.{positive}
+use Rattle.std.specs.Prelude.{Result, Ok}
+use Rattle.refusals.specs.declared.Refusal.{Refusal}
 use Rattle.floats.specs.Numbers.{◌*ᶠ◌, ◌<ᶠ◌, ◌≤ᶠ◌, +0, of_whole}
 use Rattle.floats.specs.Finite.{finite}
 use Rattle.floats.proofs.Order.Zero.{finite_above}
 use Rattle.floats.proofs.Order.FromZero.{FromZero, positive_product, product_from_zero, limits_apart}
 use Rattle.elementary.specs.Root.{sqrt}
 use Rattle.elementary.proofs.RootSign.{root_from_zero}
-use Rattle.refusals.specs.declared.Answer.{Answer}
 use Rattle.charts.specs.Sides.{side_of, signals, is_above, is_below}
 use Rattle.charts.specs.declared.Observation.{Observation}
 use Rattle.charts.specs.declared.Place.{Place}
@@ -95,7 +96,7 @@ module _ (c : Ewma) (xs : List Float) (i : ℕ) where
   record_not_both ok both = step_not_both c ok (place_of c prior i (get_or xs i nan)) prior.0 (record { 0 = i }) (get_or xs i nan) both
 
 -- ---- where `analyze` answered with `k` records: that of the reading at `i`
-module _ (c : Ewma) (xs : List Float) (entry exit : List EwmaResult) (k : ℕ) (a : ◌≡◌ {A = Answer × List EwmaResult} (Answer.Count k, exit) (analyzed c xs entry)) (i : ℕ) (h : i < k) where
+module _ (c : Ewma) (xs : List Float) (entry exit : List EwmaResult) (k : ℕ) (a : ◌≡◌ {A = Result ℕ Refusal × List EwmaResult} (Ok k, exit) (analyzed c xs entry)) (i : ℕ) (h : i < k) where
   -- its record
   abbrev written : EwmaResult
   written = get_or exit i (blank c)

@@ -1,5 +1,5 @@
 -- The EWMA chart: its settings, the place of a reading and its limits, one reading's step, the records of a series, and the indices that signal. Rules 5.1, 5.2, 5.4, 5.5 and 5.7. Definitions only.
-use Rattle.std.specs.Prelude.{ℕ, suc, ◌*◌, Bool, ◌&&◌, cond, List, length, Float}
+use Rattle.std.specs.Prelude.{ℕ, suc, ◌*◌, Bool, ◌&&◌, cond, List, length, Float, Result}
 use Rattle.floats.specs.Numbers.{◌+ᶠ◌, ◌-ᶠ◌, ◌*ᶠ◌, ◌/ᶠ◌, ◌<ᶠ◌, ◌≤ᶠ◌, +0, of_whole, ratio}
 use Rattle.floats.specs.Finite.{finite}
 use Rattle.elementary.specs.Root.{sqrt}
@@ -9,7 +9,6 @@ use Rattle.charts.specs.Settings.{setting_tests}
 use Rattle.charts.specs.Runs as Runs
 use Rattle.charts.specs.Outcomes as Outcomes
 use Rattle.refusals.specs.declared.Refusal.{Refusal}
-use Rattle.refusals.specs.declared.Answer.{Answer}
 use Rattle.charts.specs.declared.InRange.{InRange}
 use Rattle.charts.specs.declared.Observation.{Observation}
 use Rattle.charts.specs.declared.Place.{Place}
@@ -100,8 +99,8 @@ abbrev pub signalling : Ewma → List Float → ℕ → List ℕ
 signalling c xs n = Runs.points record_of fresh next_of c xs signal_of n
 
 -- what `analyze` and `signal_points` answer and leave in the lent slice
-abbrev pub analyzed : Ewma → List Float → List EwmaResult → Answer × List EwmaResult
+abbrev pub analyzed : Ewma → List Float → List EwmaResult → Result ℕ Refusal × List EwmaResult
 analyzed c xs entry = Outcomes.analyzed (tests_of c) (length xs) (records c xs) entry
 
-abbrev pub signalled : Ewma → List Float → List ℕ → Answer × List ℕ
+abbrev pub signalled : Ewma → List Float → List ℕ → Result ℕ Refusal × List ℕ
 signalled c xs entry = Outcomes.signalled (tests_of c) (length xs) (signalling c xs (length xs)) entry

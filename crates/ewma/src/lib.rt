@@ -9,6 +9,7 @@
 // of an accepted chart is never both.
 #![tactic(auto)]
 
+mod chart;
 mod resting;
 mod step;
 
@@ -16,18 +17,17 @@ ghost use Rattle.std.specs.Prelude.{◌≡◌};
 ghost use Rattle.ewma.specs.Chart.{new_of, with_params, analyzed, signalled};
 
 use charts::{Observation, Place, Side};
-use refusals::Answer;
-pub use step::{following, judge, start};
+use refusals::Refusal;
 
 // Which place on the chart a reading has: in the first edition, the Rust's, its index and 1, so that a
 // gap uses up a place; in the second the number of finite readings up to and with it.
-#[derive(Clone, Copy)]
+#[derive(Clone, Copy, PartialEq, Eq, Debug)]
 pub enum Edition {
     First,
     Second,
 }
 
-#[derive(Clone, Copy)]
+#[derive(Clone, Copy, PartialEq, Debug)]
 pub struct Ewma {
     pub target: f64,
     pub sigma: f64,
@@ -38,7 +38,7 @@ pub struct Ewma {
 
 // The record of the observation `index`: the statistic `ewma` after it, the limits `ucl` and `lcl` at
 // its place, and the side on which the statistic is outside them.
-#[derive(Clone, Copy)]
+#[derive(Clone, Copy, PartialEq, Debug)]
 pub struct EwmaResult {
     pub ewma: f64,
     pub ucl: f64,
@@ -48,7 +48,7 @@ pub struct EwmaResult {
 }
 
 // Where the limits settle: at the place `from` and later ones they lie `half_width` from the target.
-#[derive(Clone, Copy)]
+#[derive(Clone, Copy, PartialEq, Debug)]
 pub struct Settled {
     pub from: usize,
     pub half_width: f64,
@@ -56,7 +56,7 @@ pub struct Settled {
 
 // Where a chart stands: at the place `place`, the last reading's, its limits lie `half_width` from the
 // target; and `settled` says where they settle.
-#[derive(Clone, Copy)]
+#[derive(Clone, Copy, PartialEq, Debug)]
 pub struct Limits {
     pub place: Place,
     pub half_width: f64,
@@ -64,7 +64,7 @@ pub struct Limits {
 }
 
 // What goes from reading to reading: the last record, and where the chart stands.
-#[derive(Clone, Copy)]
+#[derive(Clone, Copy, PartialEq, Debug)]
 pub struct State {
     pub shown: EwmaResult,
     pub limits: Limits,
@@ -105,39 +105,18 @@ impl Ewma {
 
     // Writes a record for each reading of `data` to the front of `records`, and leaves the others; a
     // refusal changes nothing. Cost: one step for each reading.
-    pub fn analyze(self, data: &[f64], records: &mut [EwmaResult]) -> Answer
+    pub fn analyze(self, data: &[f64], records: &mut [EwmaResult]) -> Result<usize, Refusal>
         ensures { (result, records.new) ≡ analyzed self «data».now records.old }
     {
-        let answer = judge(self, data.len(), records.len());
-        let n = charts::count(answer);
-        let mut state = start(self);
-        let mut i = 0;
-        while i < n {
-            state = following(self, data, i, state);
-            records[i] = state.shown;
-            i += 1;
-        }
-        answer
+        charts::analyze(self, data, records)
     }
 
     // Writes the index of each reading of `data` that signals to the front of `points`, which needs
     // room for as many as there are readings, and leaves the others; a refusal changes nothing. Cost:
     // one step for each reading.
-    pub fn signal_points(self, data: &[f64], points: &mut [usize]) -> Answer
+    pub fn signal_points(self, data: &[f64], points: &mut [usize]) -> Result<usize, Refusal>
         ensures { (result, points.new) ≡ signalled self «data».now points.old }
     {
-        let answer = judge(self, data.len(), points.len());
-        let n = charts::count(answer);
-        let mut state = start(self);
-        let mut count = 0;
-        let mut i = 0;
-        while i < n {
-            state = following(self, data, i, state);
-            let shown = state.shown;
-            let side = shown.side;
-            count = charts::note(charts::signals(side), i, count, points);
-            i += 1;
-        }
-        charts::marked(answer, count)
+        charts::signal_points(self, data, points)
     }
 }

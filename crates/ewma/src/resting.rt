@@ -23,16 +23,14 @@ pub(crate) fn width_at(chart: Ewma, share: f64) -> f64
 pub(crate) fn settled_from(decay: f64) -> usize
     ensures { result ≡ settled_from 13 1 decay }
 {
-    let mut left = 13u64;
     let mut place = 1;
     let mut faded = decay;
-    while 0 < left {
+    for _turn in 0..13u64 {
         if faded <= f64::from_bits(0x3c90_0000_0000_0000) {
             return place;
         }
         faded = faded * faded;
         place = 2 * place;
-        left -= 1;
     }
     place
 }
@@ -86,7 +84,7 @@ pub(crate) fn limits_at_first(chart: Ewma) -> Limits
 fn at_most(place: usize, index: usize) -> usize
     ensures { result ≡ at_most place index }
 {
-    if place < index { place } else { index }
+    place.min(index)
 }
 
 // The place of the reading `x` at `index` by the edition of `chart`, after the place `last`.

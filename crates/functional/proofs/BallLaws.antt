@@ -1,7 +1,7 @@
--- Laws of the balls of a candidate in an area of 192 floats: none, one more, and what they cut; and the same of the slots of a pool. Assumes nothing.
-use Prim.Native.Nat.{ℕ, ◌+◌, ◌*◌, ◌≤◌, ◌<◌}
+-- Laws of the balls of a candidate in an area of 192 floats: none, one more, and what they cut. Assumes nothing.
+use Prim.Native.Nat.{ℕ, ◌+◌, ◌≤◌, ◌<◌}
 use mathlib.Core.Bool.{true}
-use mathlib.Core.Path.{◌≡◌, refl, sym, ap, ◌∙◌, subst}
+use mathlib.Core.Path.{◌≡◌, refl, ap, ◌∙◌, subst}
 use mathlib.Core.List.{List, []}
 use native.Mathlib.Omega.{arith}
 use native.Mathlib.Nat.{not-suc-le-zero}
@@ -19,8 +19,7 @@ use Rattle.candidate.proofs.RootLaws.{cut_in_lem}
 use Rattle.candidate.specs.Losses.{lose_inside}
 use Rattle.candidate_balls.specs.Losing.{Lost}
 use Rattle.candidate.proofs.AreaLaws.{lost_balls, lost_frame, lost_few, lost_rooted}
-use Rattle.functional.specs.Inner.Held.{slot_at, ball_floats, Balls, lost_by}
-use Rattle.functional.proofs.SlotLaws.{ball_in_pool}
+use Rattle.functional.specs.Inner.Held.{Balls, lost_by}
 
 -- ---- an area of its own
 room_here : (area : List Float) (place count : ℕ) → place + 192 ≤ length area → count ≤ 64 → has_room (length area) place count ≡ true
@@ -62,14 +61,6 @@ balls_same channels x y p q count f = tab_same (λ i. meant channels (held_at y 
 pub balls_kept : {channels : ℕ} {x : List Float} {count : ℕ} {bs : List Ball} (y : List Float) → ((i : ℕ) → i < count → held_at y 0 i ≡ held_at x 0 i) → Balls channels x count bs → Balls channels y count bs
 balls_kept {channels} {x} {count} y f k =
     record { list = balls_same channels x y 0 0 count f ∙ k.list; few = k.few; rooted = λ one i h. rw (f i h) (k.rooted one i h) }
-
--- what the balls of a slot cut, read in the pool
-pub slot_cut : {channels : ℕ} (pool : List Float) (j count place : ℕ) {bs : List Ball} (x : Candidate) → Balls channels (ball_floats (slot_at pool j)) count bs → place ≡ 200 * j + 8 → place + 192 ≤ length pool
-    → cut_in channels pool place count x ≡ cut_losing channels bs x
-slot_cut {channels} pool j count place x k e h =
-    let same : (i : ℕ) → i < count → held_at (ball_floats (slot_at pool j)) 0 i ≡ held_at pool place i = λ i l. ball_in_pool pool j i place e (omega (arith, k.few)) in
-    cut_in_lem channels pool place count x (room_here pool place count h k.few) (λ one i l. rw (← same i l) (k.rooted one i l))
-    ∙ ap (λ (l : List Ball). cut_losing channels l x) (sym (balls_same channels pool (ball_floats (slot_at pool j)) place 0 count same) ∙ k.list)
 
 pub lost_all : (channels : ℕ) (g : ℕ → Ball) (area : List Float) (r : ℕ) {i j : ℕ} → i ≡ j → Balls channels area r (lost_by channels g i) → Balls channels area r (lost_by channels g j)
 lost_all channels g area r e k = subst (λ (n : ℕ). Balls channels area r (lost_by channels g n)) e k

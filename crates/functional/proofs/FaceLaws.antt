@@ -1,13 +1,12 @@
 -- Laws of the balls that a new candidate faces others with: the mean between two places by the sums that the area holds, and the ball from its parts. Assumes nothing.
 use Prim.Native.Nat.{ℕ, ◌+◌, ◌-◌, ◌*◌, ◌≤◌, ◌<◌}
-use mathlib.Core.Path.{◌≡◌, refl, ap, subst}
+use mathlib.Core.Path.{◌≡◌, refl, ap}
 use mathlib.Core.List.{List}
 use native.Mathlib.Omega.{arith}
 use borrow.Author.Tests.{eq-eqb, ne_eqb}
-use lib.ListN.{length, get_or}
+use lib.ListN.{get_or}
 use lib.Ieee.{Float, nan}
 use Rattle.floats.specs.Numbers.{◌+ᶠ◌, ◌-ᶠ◌, ◌/ᶠ◌, +0, of_whole}
-use Rattle.sums.specs.EachChannel.{Sums}
 use Rattle.costs.specs.Summed.{segment_at, area_cost}
 use Rattle.costs.specs.declared.Segment.{Segment}
 use Rattle.costs.specs.declared.CostFunction.TheVariants.{L2}
@@ -15,38 +14,28 @@ use Rattle.costs.proofs.SummedLaws.{held_segment, cost_of_run}
 use Rattle.functional.specs.declared.Plan.{Plan}
 use Rattle.search_rules.specs.declared.Facing.{Facing}
 use Rattle.search_rules.specs.Functional.{price, centre_along, besides, slack_of, facing}
-use Rattle.functional.specs.Inner.Held.{Room, task}
+use Rattle.functional.specs.Inner.Held.{Sound, task}
 
-pub mean_held : (run : List Float) (q : Plan) (xs : List Float) (channel place a b : ℕ) → Sums run q.n q.channels xs → channel < q.channels → place ≡ channel * (2 * (q.n + 1))
-    → a < b → b ≤ q.n → (get_or xs (place + b) nan -ᶠ get_or xs (place + a) nan) /ᶠ of_whole (b - a) ≡ centre_along (task run q) channel a b
+pub centre_held : (q : Plan) (channel a b : ℕ) → Sound q → channel < q.channels → a < b → b ≤ q.n
+    → (get_or q.sums.now (channel * (2 * (q.n + 1)) + b) nan -ᶠ get_or q.sums.now (channel * (2 * (q.n + 1)) + a) nan) /ᶠ of_whole (b - a) ≡ centre_along (task q) channel a b
 unfolding centre_along segment_at
-mean_held run q xs channel place a b s h e l m =
-    rw e (ap (λ (g : Segment). g.sum /ᶠ g.length) (held_segment a b (s.channel channel h) (omega arith) m))
+centre_held q channel a b s h l m = ap (λ (g : Segment). g.sum /ᶠ g.length) (held_segment a b (s.sums.channel channel h) (omega arith) m)
 
-pub one_channel : (run : List Float) (q : Plan) (v : Float) → q.channels ≡ 1 → +0 ≡ besides (task run q) v
+pub one_channel : (q : Plan) (v : Float) → q.channels ≡ 1 → +0 ≡ besides (task q) v
 unfolding besides
-one_channel run q v e = rw (eq-eqb q.channels 1 e) refl
+one_channel q v e = rw (eq-eqb q.channels 1 e) refl
 
-pub two_channels : (run : List Float) (q : Plan) (u v : Float) → (q.channels ≡ 1 → ⊥) → u ≡ v → u ≡ besides (task run q) v
+pub two_channels : (q : Plan) (u v : Float) → (q.channels ≡ 1 → ⊥) → u ≡ v → u ≡ besides (task q) v
 unfolding besides
-two_channels run q u v e f = rw (ne_eqb q.channels 1 e) f
+two_channels q u v e f = rw (ne_eqb q.channels 1 e) f
 
 -- the cost over the channels by the sums that the area holds
-pub price_held : (run : List Float) (q : Plan) (xs : List Float) (li lp a b : ℕ) → Room q (length xs) li lp → Sums run q.n q.channels xs → a < b → b ≤ q.n
-    → area_cost L2 xs q.n q.channels a b ≡ price (task run q) a b
+pub price_held : (q : Plan) (a b : ℕ) → Sound q → a < b → b ≤ q.n → area_cost L2 q.sums.now q.n q.channels a b ≡ price (task q) a b
 unfolding price
-price_held run q xs li lp a b r s h l = cost_of_run L2 a b s h l r.short (omega arith) (omega arith)
+price_held q a b s h l = cost_of_run L2 a b s.sums h l s.short (omega (arith, s.two)) s.room
 
-pub facing_from : (run : List Float) (q : Plan) (f : List Float) (a b : ℕ) (fa fb cost len slack cx cy : Float) → fa ≡ get_or f a nan → fb ≡ get_or f b nan → cost ≡ price (task run q) a b
-    → len ≡ of_whole (b - a) → slack ≡ slack_of fb fa cost q.penalty len → cx ≡ centre_along (task run q) 0 a b
-    → cy ≡ besides (task run q) (centre_along (task run q) 1 a b)
-    → ◌≡◌ {A = Facing} (record { cx = cx; cy = cy; outer = (fb -ᶠ fa -ᶠ cost) /ᶠ len +ᶠ slack; inner = (fb -ᶠ fa -ᶠ cost) /ᶠ len -ᶠ slack }) (facing (task run q) f a b)
+pub facing_from : (q : Plan) (f : List Float) (a b : ℕ) (cost len slack cx cy : Float) → cost ≡ price (task q) a b → len ≡ of_whole (b - a) → slack ≡ slack_of (get_or f b nan) (get_or f a nan) cost q.penalty len
+    → cx ≡ centre_along (task q) 0 a b → cy ≡ besides (task q) (centre_along (task q) 1 a b)
+    → ◌≡◌ {A = Facing} (record { cx = cx; cy = cy; outer = (get_or f b nan -ᶠ get_or f a nan -ᶠ cost) /ᶠ len +ᶠ slack; inner = (get_or f b nan -ᶠ get_or f a nan -ᶠ cost) /ᶠ len -ᶠ slack }) (facing (task q) f a b)
 unfolding facing
-facing_from run q f a b fa fb cost len slack cx cy e₁ e₂ e₃ e₄ e₅ e₆ e₇ = rw (e₅, e₆, e₇, e₁, e₂, e₃, e₄) refl
-
--- a second channel, and where its sums stand
-pub is_two : {q : Plan} {lf li lp : ℕ} → Room q lf li lp → (q.channels ≡ 1 → ⊥) → q.channels ≡ 2
-is_two r f = omega (arith, r.one, r.two, f)
-
-pub second_sums : (q : Plan) {lf li lp : ℕ} → Room q lf li lp → (q.channels ≡ 1 → ⊥) → 2 * (2 * (q.n + 1)) ≤ q.f
-second_sums q r f = subst (λ (k : ℕ). k * (2 * (q.n + 1)) ≤ q.f) (is_two r f) r.sums
+facing_from q f a b cost len slack cx cy e₁ e₂ e₃ e₄ e₅ = rw (e₃, e₄, e₅, e₁, e₂) refl

@@ -1,22 +1,22 @@
 -- Laws of the words of the candidates: how many balls a word says, when it is marked, and the words of narrowed boxes. Assumes nothing.
-use Prim.Native.Nat.{ℕ, suc, ◌+◌, ◌*◌, ◌%◌, ◌≤◌, ◌<◌}
+use Prim.Native.Nat.{ℕ, suc, ◌+◌, ◌%◌, ◌≤◌, ◌<◌}
 use mathlib.Core.Bool.{Bool, true, false, cond, false≢true}
 use mathlib.Core.Path.{◌≡◌, refl, sym, ap, ◌∙◌, subst}
-use mathlib.Core.List.{List}
+use mathlib.Core.List.{List, [], ◌∷◌}
 use mathlib.Core.Logic.{⊎_elim}
 use native.Mathlib.Omega.{arith}
-use native.Mathlib.Nat.{mod-eq_of_lt, not-suc-le-zero, le_of_suc-le-suc, eq-or-lt_of_le}
-use borrow.Author.Tests.{le-ltb}
+use native.Mathlib.Nat.{mod-eq_of_lt, le_of_suc-le-suc, eq-or-lt_of_le}
+use borrow.Author.Tests.{le-ltb, eqb-true, eqb-false}
 use lib.Seq.{get_or-set_same, get_or-set_other}
-use lib.ListN.{length, get_or, set}
+use lib.Dec.{eqb}
+use lib.ListN.{length, get_or, set, length-set}
 use lib.Ieee.{Float}
-use Rattle.areas.proofs.PartLaws.{frame_refl, frame_set}
 use Rattle.candidate.specs.declared.Candidate.{Candidate}
 use Rattle.candidate_balls.specs.declared.Ball.{Ball}
 use Rattle.candidate.specs.Boxes.{restrict}
 use Rattle.search_rules.specs.declared.Facing.{Facing}
 use Rattle.search_rules.specs.Functional.{outer_ball}
-use Rattle.functional.specs.Inner.Held.{slot_at, box_at, facing_at, balls_in, is_marked, SameBox, narrowed_at, Remark, Remarked, Wide}
+use Rattle.functional.specs.Inner.Held.{Slots, slot_at, Entries, tau_at, word_at, box_at, facing_at, balls_in, is_marked, SameBox, narrowed_at, Remark, Remarked, Wide}
 use Rattle.functional.proofs.BoxLaws.{box_by_numbers, box_wide, restrict_wide}
 
 -- ---- one word
@@ -59,26 +59,28 @@ module _ (channels : ℕ) (slot : List Float) (x : Facing) (ball : Ball) (before
       sym narrowed_is ∙ same_boxes after before (rw ea (restrict_wide channels ball before w)) w s ∙ ec
 
 -- ---- all words
-pub remarked_none : (channels : ℕ) (pool : List Float) (ix : List ℕ) (w : ℕ) → Remarked channels pool ix ix w 0
-remarked_none channels pool ix w = record { done = λ i h. absurd (not-suc-le-zero h); rest = λ i h. refl; frame = frame_refl ix (2 * w) w }
+pub remarked_all : {channels : ℕ} {slots : Slots} {x y : Entries} {j n : ℕ} → Remarked channels slots x y j → n ≤ j → j ≤ n → Remarked channels slots x y n
+remarked_all {channels} {slots} {x} {y} {j} {n} r a b = let e : j ≡ n = omega arith in subst (λ (k : ℕ). Remarked channels slots x y k) e r
 
-pub remarked_more : {channels : ℕ} {pool : List Float} {ix iy : List ℕ} {w j : ℕ} (p word word' : ℕ) → Remarked channels pool ix iy w j → j < w → 3 * w ≤ length iy → p ≡ 2 * w + j → word ≡ get_or iy p 0
-    → Remark channels (slot_at pool j) word word' → Remarked channels pool ix (set iy p word') w (j + 1)
-remarked_more {channels} {pool} {ix} {iy} {w} {j} p word word' r h l e f k =
+pub remarked_more : {channels : ℕ} {slots : Slots} {x y z : Entries} {j tau word word' : ℕ} → Remarked channels slots x y j → j < length y → tau ≡ tau_at y j → word ≡ word_at y j → z ≡ set y j (tau ∷ word' ∷ [])
+    → Remark channels (slot_at slots j) word word' → Remarked channels slots x z (j + 1)
+remarked_more {channels} {slots} {x} {y} {z} {j} {tau} {word} {word'} r h t w e k =
     record {
-      done = λ i g. ⊎_elim (λ q. rw q here) (λ m. rw (get_or-set_other iy p (2 * w + i) word' 0 (omega arith)) (r.done i m)) (eq-or-lt_of_le (le_of_suc-le-suc (next g)));
-      rest = λ i g. get_or-set_other iy p (2 * w + i) word' 0 (omega arith) ∙ r.rest i (omega arith);
-      frame = frame_set p word' r.frame (omega arith) (omega arith);
+      done = λ i g. ⊎_elim (λ q. rw q (rw here (subst (λ (v : ℕ). Remark channels (slot_at slots j) v word') (w ∙ ap (λ (l : List ℕ). get_or l 1 0) (r.rest j (omega arith))) k))) (λ m. rw (other i (omega arith)) (r.done i m)) (eq-or-lt_of_le (le_of_suc-le-suc (next g)));
+      taus = λ i. side i (eqb i j) refl;
+      rest = λ i g. other i (omega arith) ∙ r.rest i (omega arith);
+      long = rw e (length-set y j (tau ∷ word' ∷ [])) ∙ r.long;
     }
   where
     next : {i : ℕ} → i < j + 1 → i < suc j
     next m = omega arith
 
-    was : word ≡ get_or ix (2 * w + j) 0
-    was = f ∙ ap (λ (q : ℕ). get_or iy q 0) e ∙ r.rest j (omega arith)
+    here : get_or z j [] ≡ tau ∷ word' ∷ []
+    here = rw e (get_or-set_same y j (tau ∷ word' ∷ []) [] h)
 
-    here : Remark channels (slot_at pool j) (get_or ix (2 * w + j) 0) (get_or (set iy p word') (2 * w + j) 0)
-    here = rw (← was, ← e, get_or-set_same iy p word' 0 (omega arith)) k
+    other : (i : ℕ) → (i ≡ j → ⊥) → get_or z i [] ≡ get_or y i []
+    other i ne = rw e (get_or-set_other y j i (tau ∷ word' ∷ []) [] ne)
 
-pub remarked_all : {channels : ℕ} {pool : List Float} {ix iy : List ℕ} {w i j : ℕ} → i ≡ j → Remarked channels pool ix iy w i → Remarked channels pool ix iy w j
-remarked_all {channels} {pool} {ix} {iy} {w} e r = subst (λ (k : ℕ). Remarked channels pool ix iy w k) e r
+    side : (i : ℕ) (b : Bool) → eqb i j ≡ b → tau_at z i ≡ tau_at x i
+    side i true q = rw (eqb-true i j q) (ap (λ (l : List ℕ). get_or l 0 0) here ∙ t ∙ r.taus j)
+    side i false q = ap (λ (l : List ℕ). get_or l 0 0) (other i (eqb-false i j q)) ∙ r.taus i

@@ -1,100 +1,89 @@
 -- Laws of the living candidates in their slots: one stored, one more looked at, and those that stay as the definition says. Assumes nothing.
-use Prim.Native.Nat.{ℕ, suc, ◌+◌, ◌*◌, ◌≤◌, ◌<◌}
-use mathlib.Core.Bool.{Bool, true, false, cond, true≢false}
-use mathlib.Core.Path.{◌≡◌, refl, sym, ap, ap₂, ◌∙◌, subst}
-use mathlib.Core.List.{List, [], ◌∷◌, ◌++◌}
-use native.Mathlib.Omega.{arith}
-use native.Mathlib.Nat.{not-suc-le-zero, le_of_suc-le-suc, eq-or-lt_of_le}
+use Rattle.std.proofs.Common.{◌≡◌, ℕ, suc, ◌+◌, ◌≤◌, ◌<◌, Bool, true, false, cond, List, [], ◌∷◌, ◌++◌, length, get_or, take, drop, set, length-set, refl, sym, ap, ◌∙◌, subst, arith, true≢false, not-suc-le-zero, add-one, length-drop, get_or-set_same, get_or-set_other, ap₂}
+use Rattle.std.proofs.lemmas.List.{take_all, set-get_or, set-append_left, get_or-append-add}
+use native.Mathlib.Nat.{le_of_suc-le-suc, eq-or-lt_of_le}
 use mathlib.Core.Logic.{⊎_elim}
-use native.Mathlib.Numerals.{add-one}
-use lib.Seq.{get_or-set_same, get_or-set_other}
-use lib.ListN.{length, get_or, set, length-set}
+use lib.ListN.{get_or-append}
 use lib.Ieee.{Float}
-use Rattle.areas.specs.Parts.{tab, Frame}
-use Rattle.areas.proofs.PartLaws.{tab_same, tab_at, tab_more, frame_refl, frame_set, frame_trans}
+use Rattle.areas.specs.Parts.{tab}
+use Rattle.areas.proofs.PartLaws.{tab_same, tab_at, tab_more}
 use Rattle.candidate.specs.declared.Candidate.{Candidate}
 use Rattle.candidate_balls.specs.declared.Ball.{Ball}
 use Rattle.candidate.specs.Balls.{held_at, balls_at}
 use Rattle.candidate.specs.Cuts.{cut_losing, cut_in}
 use Rattle.candidate.specs.Dominated.{is_dominated}
 use Rattle.search_rules.specs.Functional.{Living, living_at, cut_back, joined_by}
-use Rattle.functional.specs.Inner.Held.{slot_at, box_at, ball_floats, put_box, Put, Balled, Balls, balls_in, is_marked, lived_at, lived, Kept, BallsOf, Sane, SameBox, put_indices, Stored, Settled, survivors_to, Narrowed, Wide}
-use Rattle.functional.proofs.SlotLaws.{slot_long, slot_before, slot_after, box_put, balls_beside_box, ball_in_pool}
-use Rattle.functional.proofs.BallLaws.{balls_kept, slot_cut}
+use Rattle.functional.specs.Inner.Held.{Slots, slot_at, Whole, box_at, ball_floats, put_box, Balled, Brought, Balls, balls_in, is_marked, Entries, tau_at, word_at, lived_at, lived, Kept, BallsOf, Sane, SameBox, Stored, Settled, survivors_to, Narrowed, Wide}
+use Rattle.functional.proofs.SlotLaws.{box_put, balls_beside_box}
+use Rattle.functional.proofs.BallLaws.{balls_kept, balls_cut}
 use Rattle.functional.proofs.BoxLaws.{box_by_numbers, cut_wide, box_wide}
 use Rattle.functional.proofs.MarkLaws.{unmarked_balls, few_unmarked, marked_balls, same_boxes}
 
-pub balled_here : (pool : List Float) (to j place count : ℕ) → to ≡ j → place ≡ 200 * j + 8 → count ≤ 64 → Balled pool pool to pool place count
-balled_here pool to j place count e f h = record { balls = λ i l. ball_in_pool pool to i place (omega arith) (omega arith); box = refl; frame = frame_refl pool (200 * to) 200 }
+-- ---- balls brought to a slot
+pub brought_here : (slots : Slots) (to j count : ℕ) → to ≡ j → Brought slots slots to j count
+brought_here slots to j count e =
+    record { slot = slot_at slots to; balls = record { balls = λ i h. rw e refl; box = refl; long = refl }; put = sym (set-get_or slots to []) }
 
--- ---- indices
-pub indices_tau : (ix : List ℕ) (w j tau balls : ℕ) → 3 * w ≤ length ix → j < w → get_or (put_indices ix w j tau balls) (w + j) 0 ≡ tau
-unfolding put_indices
-indices_tau ix w j tau balls h l = get_or-set_other (set ix (w + j) tau) (2 * w + j) (w + j) balls 0 (omega arith) ∙ get_or-set_same ix (w + j) tau 0 (omega arith)
+-- the balls of a slot as a slice of it
+pub balls_slice : (slot : List Float) → length slot ≡ 200 → take 192 (drop 8 slot) ≡ ball_floats slot
+balls_slice slot e = take_all 192 (drop 8 slot) (rw (length-drop 8 slot) (omega arith))
 
-pub indices_count : (ix : List ℕ) (w j tau balls : ℕ) → 3 * w ≤ length ix → j < w → get_or (put_indices ix w j tau balls) (2 * w + j) 0 ≡ balls
-unfolding put_indices
-indices_count ix w j tau balls h l = get_or-set_same (set ix (w + j) tau) (2 * w + j) balls 0 (simp length-set (omega arith))
-
-other_tau : (ix : List ℕ) (w j tau balls i : ℕ) → i < w → j < w → (i ≡ j → ⊥) → get_or (put_indices ix w j tau balls) (w + i) 0 ≡ get_or ix (w + i) 0
-unfolding put_indices
-other_tau ix w j tau balls i h l ne = get_or-set_other (set ix (w + j) tau) (2 * w + j) (w + i) balls 0 (omega arith) ∙ get_or-set_other ix (w + j) (w + i) tau 0 (λ e. ne (omega arith))
-
-other_count : (ix : List ℕ) (w j tau balls i : ℕ) → i < w → j < w → (i ≡ j → ⊥) → get_or (put_indices ix w j tau balls) (2 * w + i) 0 ≡ get_or ix (2 * w + i) 0
-unfolding put_indices
-other_count ix w j tau balls i h l ne = get_or-set_other (set ix (w + j) tau) (2 * w + j) (2 * w + i) balls 0 (λ e. ne (omega arith)) ∙ get_or-set_other ix (w + j) (2 * w + i) tau 0 (omega arith)
-
-pub indices_frame : {x : List ℕ} (ix : List ℕ) (w j tau balls : ℕ) → j < w → Frame x ix w (2 * w) → Frame x (put_indices ix w j tau balls) w (2 * w)
-unfolding put_indices
-indices_frame ix w j tau balls h f = frame_set (2 * w + j) balls (frame_set (w + j) tau f (omega arith) (omega arith)) (omega arith) (omega arith)
+pub brought_before : (slots front back : Slots) {slot from : List Float} (to j count : ℕ) → Whole slots → j < length slots → slots ≡ front ++ back → length front ≡ j → to < j → from ≡ take 192 (drop 8 (slot_at back 0))
+    → Balled (slot_at front to) slot from count → Brought slots (set front to slot ++ back) to j count
+brought_before slots front back {slot} {from} to j count whole room e long h part b =
+    let within : to < length front = omega arith in
+    let here : j ≡ length front + 0 = omega arith in
+    let first : slot_at slots to ≡ slot_at front to = ap (λ (s : Slots). slot_at s to) e ∙ get_or-append front back [] to within in
+    let later : slot_at slots j ≡ slot_at back 0 = ap (λ (s : Slots). slot_at s j) e ∙ ap (slot_at (front ++ back)) here ∙ get_or-append-add front back 0 [] in
+    let same : from ≡ ball_floats (slot_at slots j) = part ∙ ap (λ (s : List Float). take 192 (drop 8 s)) (sym later) ∙ balls_slice (slot_at slots j) (whole j room) in
+    record { slot = slot; balls = subst (λ (s : List Float). Balled (slot_at slots to) slot s count) same (rw first b); put = sym (set-append_left front back to slot within) ∙ ap (λ (s : Slots). set s to slot) (sym e) }
 
 -- ---- a candidate stored
 living_eq : {t u : ℕ} {b c : Candidate} {l m : List Ball} → t ≡ u → b ≡ c → l ≡ m → ◌≡◌ {A = Living} (record { tau = t; box = b; losing = l }) (record { tau = u; box = c; losing = m })
 living_eq p q r = λ i. record { tau = p i; box = q i; losing = r i }
 
--- its balls come from an area that holds them, its box and indices are put beside them
-pub stored_from : {channels : ℕ} (x y z from : List Float) (ix ix' : List ℕ) (w j place tau n word : ℕ) (cut : Candidate) (area : List Float) {bs : List Ball} → Balled x y j from place n
-    → ((i : ℕ) → i < n → held_at from place i ≡ held_at area 0 i) → Balls channels area n bs → balls_in word ≡ n → (is_marked word ≡ true → cut_losing channels bs cut ≡ cut)
-    → Put y z j (put_box (slot_at y j) cut) → ix' ≡ put_indices ix w j tau word → Wide cut → 200 * j + 200 ≤ length x → 3 * w ≤ length ix → j < w
-    → Stored channels x z ix ix' w j (record { tau = tau; box = cut; losing = bs }) word
-unfolding lived_at BallsOf
-stored_from {channels} x y z from ix ix' w j place tau n word cut area {bs} b same k number uncut p e wide room long few =
-    let here : get_or ix' (2 * w + j) 0 ≡ word = rw e (indices_count ix w j tau word long few) in
-    let balls : ball_floats (slot_at z j) ≡ ball_floats (slot_at y j) = ap ball_floats p.here ∙ balls_beside_box (slot_at y j) cut in
-    let held : Balls channels (ball_floats (slot_at z j)) n bs = balls_kept (ball_floats (slot_at z j)) (λ i h. ap (λ (l : List Float). held_at l 0 i) balls ∙ b.balls i h ∙ same i h) k in
-    let box : box_at (slot_at z j) ≡ cut = ap box_at p.here ∙ box_put (slot_at y j) cut (slot_long y j (rw b.frame.long room)) ∙ box_by_numbers cut wide in
+-- its balls come from an area that holds them, its box and entry are put beside them
+pub stored_from : {channels : ℕ} {x z : Slots} {ix iz : Entries} (j tau n word : ℕ) (between from : List Float) (cut : Candidate) {bs : List Ball} → length (slot_at x j) ≡ 200 → j < length ix
+    → Balled (slot_at x j) between from n → Balls channels from n bs → balls_in word ≡ n → (is_marked word ≡ true → cut_losing channels bs cut ≡ cut)
+    → slot_at z j ≡ put_box between cut → ((i : ℕ) → (i ≡ j → ⊥) → slot_at z i ≡ slot_at x i) → length z ≡ length x → iz ≡ set ix j (tau ∷ word ∷ []) → Wide cut
+    → Stored channels x z ix iz j (record { tau = tau; box = cut; losing = bs }) word
+unfolding lived_at
+stored_from {channels} {x} {z} {ix} {iz} j tau n word between from cut {bs} whole few b k number uncut slot rest long e wide =
+    let entry : get_or iz j [] ≡ tau ∷ word ∷ [] = ap (λ (l : Entries). get_or l j []) e ∙ get_or-set_same ix j (tau ∷ word ∷ []) [] few in
+    let here : word_at iz j ≡ word = ap (λ (l : List ℕ). get_or l 1 0) entry in
+    let balls : ball_floats (slot_at z j) ≡ ball_floats between = ap (drop 8) slot ∙ balls_beside_box between cut in
+    let held : Balls channels (ball_floats (slot_at z j)) n bs = balls_kept (ball_floats (slot_at z j)) (λ i h. ap (λ (l : List Float). held_at l 0 i) balls ∙ b.balls i h) k in
+    let box : box_at (slot_at z j) ≡ cut = ap box_at slot ∙ box_put between cut (b.long ∙ whole) ∙ box_by_numbers cut wide in
     record {
-      living = living_eq (rw e (indices_tau ix w j tau word long few)) box (rw (here, number) held.list);
+      living = living_eq (ap (λ (l : List ℕ). get_or l 0 0) entry) box (rw (here, number) held.list);
       sane = rw here (record { balls = rw number (record { list = refl; few = held.few; rooted = held.rooted }); uncut = λ m. rw (number, held.list, box) (uncut m) });
-      frame = frame_trans b.frame p.frame;
-      indices = e;
+      rest = rest;
+      rest_entries = λ i ne. ap (λ (l : Entries). get_or l i []) e ∙ get_or-set_other ix j i (tau ∷ word ∷ []) [] ne;
+      long = long;
+      long_entries = ap length e ∙ length-set ix j (tau ∷ word ∷ []);
     }
 
 -- ---- one candidate more
--- a slot and its indices that stay are the same candidate
-lived_same : (channels : ℕ) (x y : List Float) (ix iy : List ℕ) (w j : ℕ) → slot_at y j ≡ slot_at x j → get_or iy (w + j) 0 ≡ get_or ix (w + j) 0 → get_or iy (2 * w + j) 0 ≡ get_or ix (2 * w + j) 0
-    → lived_at channels y iy w j ≡ lived_at channels x ix w j
+-- a slot and its entry that stay are the same candidate
+lived_same : (channels : ℕ) (x y : Slots) (ix iy : Entries) (j : ℕ) → slot_at y j ≡ slot_at x j → get_or iy j [] ≡ get_or ix j [] → lived_at channels y iy j ≡ lived_at channels x ix j
 unfolding lived_at
-lived_same channels x y ix iy w j p q r = rw (p, q, r) refl
+lived_same channels x y ix iy j p q = rw (p, q) refl
 
-balls_of_same : (channels : ℕ) (x y : List Float) (ix iy : List ℕ) (w j : ℕ) → slot_at y j ≡ slot_at x j → get_or iy (2 * w + j) 0 ≡ get_or ix (2 * w + j) 0
-    → BallsOf channels x ix w j → BallsOf channels y iy w j
-unfolding BallsOf lived_at
-balls_of_same channels x y ix iy w j p q k = rw (p, q) k
+balls_of_same : (channels : ℕ) (x y : Slots) (ix iy : Entries) (j : ℕ) → slot_at y j ≡ slot_at x j → get_or iy j [] ≡ get_or ix j [] → BallsOf channels x ix j → BallsOf channels y iy j
+balls_of_same channels x y ix iy j p q k = rw (p, q) k
 
 -- after a candidate was stored in slot j, the first j + 1 are the first j and it
-pub stored_living : {channels : ℕ} {x y : List Float} {ix iy : List ℕ} {w j : ℕ} {c : Living} {n : ℕ} → Stored channels x y ix iy w j c n → j < w → lived channels y iy w (j + 1) ≡ lived channels x ix w j ++ (c ∷ [])
+pub stored_living : {channels : ℕ} {x y : Slots} {ix iy : Entries} {j : ℕ} {c : Living} {n : ℕ} → Stored channels x y ix iy j c n → lived channels y iy (j + 1) ≡ lived channels x ix j ++ (c ∷ [])
 unfolding lived
-stored_living {channels} {x} {y} {ix} {iy} {w} {j} {c} {n} s h =
-    tab_more (lived_at channels y iy w) j
+stored_living {channels} {x} {y} {ix} {iy} {j} {c} s =
+    tab_more (lived_at channels y iy) j
     ∙ ap₂ (λ (l : List Living) (v : Living). l ++ (v ∷ []))
-    (tab_same (lived_at channels y iy w) (lived_at channels x ix w) j
-    (λ i l. lived_same channels x y ix iy w i (slot_before i s.frame l) (rw s.indices (other_tau ix w j c.tau n i (omega arith) h (omega arith))) (rw s.indices (other_count ix w j c.tau n i (omega arith) h (omega arith)))))
+    (tab_same (lived_at channels y iy) (lived_at channels x ix) j (λ i l. lived_same channels x y ix iy i (s.rest i (omega arith)) (s.rest_entries i (omega arith))))
     s.living
 
-pub stored_sane : {channels : ℕ} {x y : List Float} {ix iy : List ℕ} {w j : ℕ} {c : Living} {n : ℕ} → Stored channels x y ix iy w j c n → j < w → Sane channels x ix w j → Sane channels y iy w (j + 1)
-stored_sane {channels} {x} {y} {ix} {iy} {w} {j} {c} {n} s h k =
-    record { each = λ i l. ⊎_elim (λ e. rw e s.sane) (λ l. balls_of_same channels x y ix iy w i (slot_before i s.frame l) (rw s.indices (other_count ix w j c.tau n i (omega arith) h (omega arith))) (k.each i l)) (eq-or-lt_of_le (le_of_suc-le-suc (next l))) }
+pub stored_sane : {channels : ℕ} {x y : Slots} {ix iy : Entries} {j : ℕ} {c : Living} {n : ℕ} → Stored channels x y ix iy j c n → Sane channels x ix j → Sane channels y iy (j + 1)
+stored_sane {channels} {x} {y} {ix} {iy} {j} s k =
+    record { each = λ i l. ⊎_elim (λ e. rw e s.sane) (λ l. balls_of_same channels x y ix iy i (s.rest i (omega arith)) (s.rest_entries i (omega arith)) (k.each i l)) (eq-or-lt_of_le (le_of_suc-le-suc (next l))) }
   where
     next : {i : ℕ} → i < j + 1 → i < suc j
     next l = omega arith
@@ -111,142 +100,132 @@ pub joined_stays : (channels : ℕ) (c : Living) (living : List Living) → is_d
 unfolding joined_by
 joined_stays channels c living e = rw e refl
 
-pub narrowed_none : (channels : ℕ) (pool : List Float) (ix : List ℕ) (w count : ℕ) → Narrowed channels pool pool ix ix w count 0 0
+pub narrowed_none : (channels : ℕ) (slots : Slots) (entries : Entries) (count : ℕ) → Narrowed channels slots slots entries entries count 0 0
 unfolding lived survivors_to tab
-narrowed_none channels pool ix w count =
+narrowed_none channels slots entries count =
     record {
       few = omega arith;
       living = refl;
       sane = record { each = λ j h. absurd (not-suc-le-zero h) };
-      slots = λ i h. refl;
-      taus = λ i h l. refl;
-      counts = λ i h l. refl;
+      rest = λ i h. refl;
+      rest_entries = λ i h. refl;
       long = refl;
-      frame = frame_refl ix w (2 * w);
+      long_entries = refl;
     }
 
-pub narrowed_all : {channels : ℕ} {x y : List Float} {ix iy : List ℕ} {w count i j kept : ℕ} → i ≡ j → Narrowed channels x y ix iy w count i kept → Narrowed channels x y ix iy w count j kept
-narrowed_all {channels} {x} {y} {ix} {iy} {w} {count} {kept = kept} e r = subst (λ (k : ℕ). Narrowed channels x y ix iy w count k kept) e r
+module _ {channels : ℕ} {x y : Slots} {ix iy : Entries} {count j kept : ℕ} (r : Narrowed channels x y ix iy count j kept) (h : j < count) where
+  -- the candidate that is looked at is the one that stood there at first
+  candidate_still : cut_back channels (lived_at channels y iy j) ≡ cut_back channels (living_at (lived channels x ix count) j)
+  unfolding lived
+  candidate_still =
+      ap (cut_back channels) (lived_same channels x y ix iy j (r.rest j (omega arith)) (r.rest_entries j (omega arith)) ∙ sym (tab_at (lived_at channels x ix) count j _ h))
 
--- the candidate that is looked at is the one that stood there at first
-candidate_still : {channels : ℕ} {x y : List Float} {ix iy : List ℕ} {w count j kept : ℕ} → Narrowed channels x y ix iy w count j kept → j < count → count ≤ w
-    → cut_back channels (lived_at channels y iy w j) ≡ cut_back channels (living_at (lived channels x ix w count) j)
-unfolding lived
-candidate_still {channels} {x} {y} {ix} {iy} {w} {count} {j} r h l =
-    ap (cut_back channels) (lived_same channels x y ix iy w j (r.slots j (omega arith)) (r.taus j (omega arith) (omega arith)) (r.counts j (omega arith) (omega arith)) ∙ sym (tab_at (lived_at channels x ix w) count j _ h))
+  abbrev looked : Living
+  looked = cut_back channels (lived_at channels y iy j)
 
-narrowed_gone : {channels : ℕ} {x y : List Float} {ix iy : List ℕ} {w count j kept : ℕ} → Narrowed channels x y ix iy w count j kept → j < count → count ≤ w
-    → is_dominated channels (cut_back channels (lived_at channels y iy w j)).box ≡ true → Narrowed channels x y ix iy w count (j + 1) kept
-narrowed_gone {channels} {x} {y} {ix} {iy} {w} {count} {j} {kept} r h l e =
-    let few = r.few in
-    let c = cut_back channels (lived_at channels y iy w j) in
-    let s = survivors_to channels (lived channels x ix w count) j in
-    let same = candidate_still r h l in
-    record {
-      few = omega arith;
-      living = r.living ∙ sym (joined_gone channels c s e) ∙ ap (λ (d : Living). joined_by channels d s) same ∙ sym (survivors_more channels (lived channels x ix w count) j);
-      sane = r.sane;
-      slots = λ i g. r.slots i (omega arith);
-      taus = λ i g m. r.taus i (omega arith) m;
-      counts = λ i g m. r.counts i (omega arith) m;
-      long = r.long;
-      frame = r.frame;
-    }
+  abbrev before : List Living
+  before = survivors_to channels (lived channels x ix count) j
 
-narrowed_stays : {channels : ℕ} {x y z : List Float} {ix iy iz : List ℕ} {w count j kept : ℕ} (n : ℕ) → Narrowed channels x y ix iy w count j kept → j < count → count ≤ w
-    → is_dominated channels (cut_back channels (lived_at channels y iy w j)).box ≡ false → Stored channels y z iy iz w kept (cut_back channels (lived_at channels y iy w j)) n
-    → Narrowed channels x z ix iz w count (j + 1) (kept + 1)
-narrowed_stays {channels} {x} {y} {z} {ix} {iy} {iz} {w} {count} {j} {kept} n r h l e s =
-    let few = r.few in
-    let room : kept < w = omega arith in
-    let c = cut_back channels (lived_at channels y iy w j) in
-    let t = survivors_to channels (lived channels x ix w count) j in
-    let same = candidate_still r h l in
-    record {
-      few = omega arith;
-      living =
-          stored_living s room
-          ∙ ap (λ (m : List Living). m ++ (c ∷ [])) r.living
-          ∙ sym (joined_stays channels c t e)
-          ∙ ap (λ (d : Living). joined_by channels d t) same
-          ∙ sym (survivors_more channels (lived channels x ix w count) j);
-      sane = stored_sane s room r.sane;
-      slots = λ i g. slot_after i s.frame (omega arith) ∙ r.slots i (omega arith);
-      taus = λ i g m. (rw s.indices (other_tau iy w kept c.tau n i m room (omega arith))) ∙ r.taus i (omega arith) m;
-      counts = λ i g m. (rw s.indices (other_count iy w kept c.tau n i m room (omega arith))) ∙ r.counts i (omega arith) m;
-      long = s.frame.long ∙ r.long;
-      frame = rw s.indices (indices_frame iy w kept c.tau n room r.frame);
-    }
+  narrowed_gone : is_dominated channels looked.box ≡ true → Narrowed channels x y ix iy count (j + 1) kept
+  narrowed_gone e =
+      let few = r.few in
+      record {
+        few = omega arith;
+        living = r.living ∙ sym (joined_gone channels looked before e) ∙ ap (λ (d : Living). joined_by channels d before) candidate_still ∙ sym (survivors_more channels (lived channels x ix count) j);
+        sane = r.sane;
+        rest = λ i g. r.rest i (omega arith);
+        rest_entries = λ i g. r.rest_entries i (omega arith);
+        long = r.long;
+        long_entries = r.long_entries;
+      }
 
-pub narrowed_more : {channels : ℕ} {x y z : List Float} {ix iy iz : List ℕ} {w count j kept r : ℕ} → Narrowed channels x y ix iy w count j kept → j < count → count ≤ w
-    → Settled channels y z iy iz w kept (cut_back channels (lived_at channels y iy w j)) r → Narrowed channels x z ix iz w count (j + 1) r
-narrowed_more {channels} {x} {y} {z} {ix} {iy} {iz} {w} {count} {j} {kept} {r} v h l s = side (is_dominated channels (cut_back channels (lived_at channels y iy w j)).box) refl
-  where
-    side : (b : Bool) → is_dominated channels (cut_back channels (lived_at channels y iy w j)).box ≡ b → Narrowed channels x z ix iz w count (j + 1) r
-    side true e = let g = s.gone e in rw (g.0, g.1.pool, g.1.indices) (narrowed_gone v h l e)
-    side false e = let g = s.stays e in rw g.0 (narrowed_stays g.1.0 v h l e g.1.1)
+  narrowed_stays : {z : Slots} {iz : Entries} {n : ℕ} → is_dominated channels looked.box ≡ false → Stored channels y z iy iz kept looked n → Narrowed channels x z ix iz count (j + 1) (kept + 1)
+  narrowed_stays e s =
+      let few = r.few in
+      record {
+        few = omega arith;
+        living =
+            stored_living s
+            ∙ ap (λ (m : List Living). m ++ (looked ∷ [])) r.living
+            ∙ sym (joined_stays channels looked before e)
+            ∙ ap (λ (d : Living). joined_by channels d before) candidate_still
+            ∙ sym (survivors_more channels (lived channels x ix count) j);
+        sane = stored_sane s r.sane;
+        rest = λ i g. s.rest i (omega arith) ∙ r.rest i (omega arith);
+        rest_entries = λ i g. s.rest_entries i (omega arith) ∙ r.rest_entries i (omega arith);
+        long = s.long ∙ r.long;
+        long_entries = s.long_entries ∙ r.long_entries;
+      }
+
+  pub narrowed_more : {z : Slots} {iz : Entries} {k : ℕ} → Settled channels y z iy iz kept looked k → Narrowed channels x z ix iz count (j + 1) k
+  narrowed_more {z} {iz} {k} s = side (is_dominated channels looked.box) refl
+    where
+      side : (b : Bool) → is_dominated channels looked.box ≡ b → Narrowed channels x z ix iz count (j + 1) k
+      side true e = let g = s.gone e in rw (g.0, g.1.same, g.1.same_entries) (narrowed_gone e)
+      side false e = let g = s.stays e in rw g.0 (narrowed_stays e g.1.1)
 
 -- what `settle` leaves: nothing done, or the candidate stored
-pub settled_gone : {channels : ℕ} {x : List Float} {ix : List ℕ} {w j : ℕ} {c : Living} → is_dominated channels c.box ≡ true → Settled channels x x ix ix w j c j
-settled_gone e = record { gone = λ _. (refl, record { pool = refl; indices = refl }); stays = λ f. absurd (true≢false (sym e ∙ f)) }
+pub settled_gone : {channels : ℕ} {x : Slots} {ix : Entries} {j : ℕ} {c : Living} → is_dominated channels c.box ≡ true → Settled channels x x ix ix j c j
+settled_gone e = record { gone = λ _. (refl, record { same = refl; same_entries = refl }); stays = λ f. absurd (true≢false (sym e ∙ f)) }
 
-pub settled_stays : {channels : ℕ} {x z : List Float} {ix iz : List ℕ} {w j : ℕ} {c : Living} {word r : ℕ} → is_dominated channels c.box ≡ false → r ≡ j + 1 → Stored channels x z ix iz w j c word
-    → Settled channels x z ix iz w j c r
-settled_stays {word = word} e q s = record { gone = λ f. absurd (true≢false (sym f ∙ e)); stays = λ _. (q, (word, s)) }
+pub settled_stays : {channels : ℕ} {x z : Slots} {ix iz : Entries} {j : ℕ} {c : Living} {word : ℕ} → is_dominated channels c.box ≡ false → Stored channels x z ix iz j c word → Settled channels x z ix iz j c (j + 1)
+settled_stays {word = word} e s = record { gone = λ f. absurd (true≢false (sym f ∙ e)); stays = λ _. (refl, (word, s)) }
 
 -- ---- what `settle` works out
-pub balls_cut_in : (channels : ℕ) (pool : List Float) (j word place : ℕ) (x : Candidate) → Kept channels (slot_at pool j) word → word ≤ 127 → place ≡ 200 * j + 8 → 200 * j + 200 ≤ length pool
-    → cut_in channels pool place word x ≡ cut_losing channels (balls_at channels (ball_floats (slot_at pool j)) 0 (balls_in word)) x
-balls_cut_in channels pool j word place x k low e h =
-    slot_cut pool j word place x (subst (λ (n : ℕ). Balls channels (ball_floats (slot_at pool j)) n (balls_at channels (ball_floats (slot_at pool j)) 0 (balls_in word))) (unmarked_balls word low) k.balls) e (omega arith)
-
-pub settle_cut : (channels : ℕ) (pool : List Float) (ix : List ℕ) (w j word : ℕ) (before cut : Candidate) → before ≡ box_at (slot_at pool j) → word ≡ get_or ix (2 * w + j) 0
-    → cut ≡ cut_losing channels (balls_at channels (ball_floats (slot_at pool j)) 0 (balls_in word)) before → cut ≡ (cut_back channels (lived_at channels pool ix w j)).box
-unfolding cut_back lived_at
-settle_cut channels pool ix w j word before cut e f q = q ∙ (rw (e, f) refl)
-
-pub settle_wide : (channels : ℕ) (pool : List Float) (ix : List ℕ) (w j : ℕ) → Wide (cut_back channels (lived_at channels pool ix w j)).box
-unfolding cut_back lived_at
-settle_wide channels pool ix w j = cut_wide channels _ _ (box_wide (slot_at pool j))
-
-balls_of : (channels : ℕ) (x : List Float) (ix : List ℕ) (w j : ℕ) → BallsOf channels x ix w j
-    → Balls channels (ball_floats (slot_at x j)) (balls_in (get_or ix (2 * w + j) 0)) (cut_back channels (lived_at channels x ix w j)).losing
-unfolding BallsOf cut_back lived_at
-balls_of channels x ix w j v = v.balls
-
--- balls that left a box as it was cut nothing from what they left
-cut_again : (channels : ℕ) (x : List Float) (ix : List ℕ) (w j : ℕ) (before cut : Candidate) → before ≡ box_at (slot_at x j) → cut ≡ (cut_back channels (lived_at channels x ix w j)).box → SameBox before cut
-    → cut_losing channels (cut_back channels (lived_at channels x ix w j)).losing cut ≡ cut
-unfolding cut_back lived_at
-cut_again channels x ix w j before cut e q s =
-    let same : before ≡ cut = same_boxes before cut (rw e (box_wide (slot_at x j))) (rw q (settle_wide channels x ix w j)) s in
-    ap (cut_losing channels _) (sym same ∙ e) ∙ sym q
-
-cut_by_parts : (channels : ℕ) (x : List Float) (ix : List ℕ) (w j tau : ℕ) (cut : Candidate) → tau ≡ get_or ix (w + j) 0 → cut ≡ (cut_back channels (lived_at channels x ix w j)).box
-    → ◌≡◌ {A = Living} (record { tau = tau; box = cut; losing = (cut_back channels (lived_at channels x ix w j)).losing }) (cut_back channels (lived_at channels x ix w j))
-unfolding cut_back lived_at
-cut_by_parts channels x ix w j tau cut p q = living_eq p q refl
-
-pub settle_stored : (channels : ℕ) (x y z : List Float) (ix iz : List ℕ) (w j kept tau n word place : ℕ) (before cut : Candidate) (same : Bool) → BallsOf channels x ix w j → before ≡ box_at (slot_at x j)
-    → cut ≡ (cut_back channels (lived_at channels x ix w j)).box → tau ≡ get_or ix (w + j) 0 → n ≡ balls_in (get_or ix (2 * w + j) 0) → (same ≡ true → SameBox before cut) → word ≡ cond same (n + 128) n
-    → Balled x y kept x place n → place ≡ 200 * j + 8 → Put y z kept (put_box (slot_at y kept) cut) → iz ≡ put_indices ix w kept tau word
-    → 200 * kept + 200 ≤ length x → 3 * w ≤ length ix → kept < w → Stored channels x z ix iz w kept (cut_back channels (lived_at channels x ix w j)) word
-settle_stored channels x y z ix iz w j kept tau n word place before cut same k d e f g u v b h p q room long few =
-    let c = cut_back channels (lived_at channels x ix w j) in
-    let held : Balls channels (ball_floats (slot_at x j)) n c.losing = rw g (balls_of channels x ix w j k) in
-    let s =
-    stored_from x y z x ix iz w kept place tau n word cut (ball_floats (slot_at x j)) b (λ i l. sym (ball_in_pool x j i place h (omega (arith, held.few)))) held (rw v (marked_balls n same held.few))
-    (λ m. uncut held.few same u (rw v at m)) p q (rw e (settle_wide channels x ix w j)) room long few in
-    let is : ◌≡◌ {A = Living} (record { tau = tau; box = cut; losing = c.losing }) c = cut_by_parts channels x ix w j tau cut f e in
-    subst (λ (l : Living). Stored channels x z ix iz w kept l word) is s
+pub balls_cut_in : (channels : ℕ) (slot : List Float) (word : ℕ) (x : Candidate) → Kept channels slot word → word ≤ 127 → length slot ≡ 200
+    → cut_in channels (take 192 (drop 8 slot)) 0 word x ≡ cut_losing channels (balls_at channels (ball_floats slot) 0 (balls_in word)) x
+balls_cut_in channels slot word x k low long =
+    ap (λ (l : List Float). cut_in channels l 0 word x) (balls_slice slot long)
+    ∙ balls_cut x (subst (λ (n : ℕ). Balls channels (ball_floats slot) n (balls_at channels (ball_floats slot) 0 (balls_in word))) (unmarked_balls word low) k.balls) (room slot long)
   where
-    uncut : n ≤ 64 → (t : Bool) → (t ≡ true → SameBox before cut) → is_marked (cond t (n + 128) n) ≡ true
-        → cut_losing channels (cut_back channels (lived_at channels x ix w j)).losing cut ≡ cut
-    uncut l true m i = cut_again channels x ix w j before cut d e (m refl)
-    uncut l false m i = absurd (few_unmarked n l i)
+    room : (l : List Float) → length l ≡ 200 → 192 ≤ length (drop 8 l)
+    room l e = rw (length-drop 8 l) (omega arith)
 
-pub balls_few : (channels : ℕ) (x : List Float) (ix : List ℕ) (w j : ℕ) → BallsOf channels x ix w j → balls_in (get_or ix (2 * w + j) 0) ≤ 64
-balls_few channels x ix w j v = (balls_of channels x ix w j v).few
+module _ (channels : ℕ) (x : Slots) (ix : Entries) (j : ℕ) where
+  abbrev cut_one : Living
+  cut_one = cut_back channels (lived_at channels x ix j)
 
-pub narrowed_balls : {channels : ℕ} {x y : List Float} {ix iy : List ℕ} {w count j kept : ℕ} → Narrowed channels x y ix iy w count j kept → Sane channels x ix w count → j < count → count ≤ w → BallsOf channels y iy w j
-narrowed_balls {channels} {x} {y} {ix} {iy} {w} {j = j} r s h l = balls_of_same channels x y ix iy w j (r.slots j (omega arith)) (r.counts j (omega arith) (omega arith)) (s.each j h)
+  pub settle_cut : (before cut : Candidate) → before ≡ box_at (slot_at x j) → cut ≡ cut_losing channels (balls_at channels (ball_floats (slot_at x j)) 0 (balls_in (word_at ix j))) before → cut ≡ cut_one.box
+  unfolding cut_back lived_at
+  settle_cut before cut e q = q ∙ (rw e refl)
+
+  settle_wide : Wide cut_one.box
+  unfolding cut_back lived_at
+  settle_wide = cut_wide channels _ _ (box_wide (slot_at x j))
+
+  balls_of : BallsOf channels x ix j → Balls channels (ball_floats (slot_at x j)) (balls_in (word_at ix j)) cut_one.losing
+  unfolding cut_back lived_at
+  balls_of v = v.balls
+
+  -- balls that left a box as it was cut nothing from what they left
+  cut_again : (before cut : Candidate) → before ≡ box_at (slot_at x j) → cut ≡ cut_one.box → SameBox before cut → cut_losing channels cut_one.losing cut ≡ cut
+  unfolding cut_back lived_at
+  cut_again before cut e q s =
+      let same : before ≡ cut = same_boxes before cut (rw e (box_wide (slot_at x j))) (rw q settle_wide) s in
+      ap (cut_losing channels _) (sym same ∙ e) ∙ sym q
+
+  cut_by_parts : (cut : Candidate) → cut ≡ cut_one.box → ◌≡◌ {A = Living} (record { tau = tau_at ix j; box = cut; losing = cut_one.losing }) cut_one
+  unfolding cut_back lived_at
+  cut_by_parts cut q = living_eq refl q refl
+
+  pub balls_few : BallsOf channels x ix j → balls_in (word_at ix j) ≤ 64
+  balls_few v = (balls_of v).few
+
+  pub settle_stored : {y z : Slots} {iz : Entries} (kept word : ℕ) (before cut : Candidate) (same : Bool) → BallsOf channels x ix j → before ≡ box_at (slot_at x j) → cut ≡ cut_one.box → (same ≡ true → SameBox before cut)
+      → word ≡ cond same (balls_in (word_at ix j) + 128) (balls_in (word_at ix j)) → Brought x y kept j (balls_in (word_at ix j)) → z ≡ set y kept (put_box (slot_at y kept) cut) → iz ≡ set ix kept (tau_at ix j ∷ word ∷ [])
+      → Whole x → kept < length x → kept < length ix → Stored channels x z ix iz kept cut_one word
+  settle_stored {y} {z} {iz} kept word before cut same k d e u v b q p whole room few =
+      let n = balls_in (word_at ix j) in
+      let held : Balls channels (ball_floats (slot_at x j)) n cut_one.losing = balls_of k in
+      let moved : slot_at y kept ≡ b.slot = ap (λ (s : Slots). slot_at s kept) b.put ∙ get_or-set_same x kept b.slot [] room in
+      let long : length y ≡ length x = ap length b.put ∙ length-set x kept b.slot in
+      let here : slot_at z kept ≡ put_box b.slot cut = ap (λ (s : Slots). slot_at s kept) q ∙ get_or-set_same y kept _ [] (omega arith) ∙ ap (λ (s : List Float). put_box s cut) moved in
+      let s =
+      stored_from kept (tau_at ix j) n word b.slot (ball_floats (slot_at x j)) cut (whole kept room) few b.balls held (rw v (marked_balls n same held.few)) (λ m. uncut held.few same u (rw v at m))
+      here (λ i ne. ap (λ (s : Slots). slot_at s i) q ∙ get_or-set_other y kept i _ [] ne ∙ ap (λ (s : Slots). slot_at s i) b.put ∙ get_or-set_other x kept i b.slot [] ne)
+      (ap length q ∙ length-set y kept _ ∙ long) p (rw e settle_wide) in
+      subst (λ (l : Living). Stored channels x z ix iz kept l word) (cut_by_parts cut e) s
+    where
+      uncut : balls_in (word_at ix j) ≤ 64 → (t : Bool) → (t ≡ true → SameBox before cut) → is_marked (cond t (balls_in (word_at ix j) + 128) (balls_in (word_at ix j))) ≡ true → cut_losing channels cut_one.losing cut ≡ cut
+      uncut l true m i = cut_again before cut d e (m refl)
+      uncut l false m i = absurd (few_unmarked _ l i)

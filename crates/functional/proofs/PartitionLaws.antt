@@ -1,104 +1,73 @@
--- Laws of the whole search: the plan's room, how the areas begin, what is left where the search fits and where it does not, and that one outcome meets `Partitioned`. Assumes nothing.
-use Prim.Native.Nat.{ℕ, zero, suc, ◌+◌, ◌-◌, ◌*◌, ◌/◌, ◌≤◌, ◌<◌}
+-- Laws of the whole search: how the areas begin, what is left where the search fits and where it does not, and that one outcome meets `Partitioned`. Assumes nothing.
+use Prim.Native.Nat.{ℕ, zero, suc, ◌+◌, ◌-◌, ◌/◌, ◌≤◌, ◌<◌}
 use mathlib.Core.Bool.{Bool, true, false, cond, true≢false, false≢true}
 use mathlib.Core.Path.{◌≡◌, refl, sym, ap, ◌∙◌}
 use mathlib.Core.List.{List, [], ◌∷◌, ◌++◌}
 use native.Mathlib.Omega.{arith}
 use borrow.Author.Tests.{leb-true}
 use lib.Dec.{leb}
-use lib.Seq.{get_or-set_same, get_or-set_other}
-use lib.ListN.{length, get_or, set, replicate, length-set}
+use lib.Seq.{get_or-set_same}
+use lib.ListN.{length, get_or, set, replicate, length-set, length-replicate}
 use lib.Ieee.{Float, neg}
+use Rattle.std.proofs.lemmas.List.{take_all, take-append-le}
 use Rattle.logic.proofs.Laws.{both}
 use Rattle.floats.specs.Numbers.{+0}
 use Rattle.areas.specs.Parts.{part, tab}
-use Rattle.areas.proofs.PartLaws.{part_above, store, frame_set}
 use Rattle.areas.specs.Cleared.{Cleared}
-use Rattle.areas.proofs.ClearedLaws.{cleared_part, cleared_whole, cleared_tail}
-use Rattle.sums.specs.EachChannel.{Sums}
-use Rattle.sums.proofs.ChannelLaws.{sums_kept}
+use Rattle.areas.proofs.ClearedLaws.{cleared_whole, cleared_tail}
 use Rattle.search_rules.specs.Room.{search_fits}
-use Rattle.search_rules.proofs.RoomLaws.{Series, Roomy, fits_room, split_floats}
+use Rattle.search_rules.proofs.RoomLaws.{fits_room}
 use Rattle.candidate.specs.declared.Candidate.{Candidate}
 use Rattle.candidate.specs.Balls.{balls_at}
 use Rattle.functional.specs.declared.Plan.{Plan}
 use Rattle.search_rules.specs.Functional.{Task, range_box, state_after}
 use Rattle.search_rules.specs.Partitioned.{fits_task, task_fits, slots_suffice, indices_after, Partitioned}
-use Rattle.functional.specs.Inner.Held.{Room, task, slot_at, box_at, ball_floats, put_box, Put, balls_in, lived_at, lived, BallsOf, Sane, Holds, Searched, Ran}
-use Rattle.functional.proofs.SlotLaws.{slot_long, box_put}
+use Rattle.functional.specs.Inner.Held.{Sound, task, Slots, slot_at, Whole, box_at, ball_floats, put_box, balls_in, Entries, word_at, lived_at, lived, BallsOf, Sane, Holds, Searched, Ran}
+use Rattle.functional.proofs.SlotLaws.{box_put}
 use Rattle.functional.proofs.BallLaws.{balls_none}
 use Rattle.functional.proofs.MarkLaws.{few_unmarked}
 use Rattle.functional.proofs.BoxLaws.{range_wide, box_by_numbers}
 use Rattle.search_rules.proofs.PeakLaws.{slots_too_few}
 
--- ---- the plan
-pub plan_room : (penalty : Float) (run n k m lf li lp f slots : ℕ) (range : Candidate) → 1 ≤ k → k ≤ 2 → Series run n k m → Roomy n k lf li → f ≡ k * (2 * (n + 1)) → 200 * slots ≤ lp
-    → Room (record { penalty = penalty; n = n; m = m; channels = k; f = f; slots = slots; range = range }) lf li lp
-plan_room penalty run n k m lf li lp f slots range one two s r e g =
-    record {
-      short = s.short;
-      one = one;
-      two = two;
-      some = s.some;
-      ripe = s.ripe;
-      sums = omega arith;
-      f = omega (arith, r.floats, split_floats k (n + 1));
-      indices = r.indices;
-      slots = g;
-    }
-
 -- ---- how the areas begin
-first_living : (channels : ℕ) (pool : List Float) (ix : List ℕ) (w : ℕ) (x : Candidate) → get_or ix (w + 0) 0 ≡ 0 → get_or ix (2 * w + 0) 0 ≡ 0 → box_at (slot_at pool 0) ≡ x
-    → lived channels pool ix w 1 ≡ record { tau = 0; box = x; losing = [] } ∷ []
+first_living : (channels : ℕ) (slots : Slots) (ix : Entries) (x : Candidate) → get_or ix 0 [] ≡ 0 ∷ 0 ∷ [] → box_at (slot_at slots 0) ≡ x → lived channels slots ix 1 ≡ record { tau = 0; box = x; losing = [] } ∷ []
 unfolding lived lived_at balls_in tab balls_at
-first_living channels pool ix w x p q r = rw (p, q, r) refl
+first_living channels slots ix x p r = rw (p, r) refl
 
-first_sane : (channels : ℕ) (pool : List Float) (ix : List ℕ) (w : ℕ) → get_or ix (2 * w + 0) 0 ≡ 0 → Sane channels pool ix w 1
-unfolding BallsOf balls_in balls_at tab
-first_sane channels pool ix w e = record { each = λ j h. only j h }
+first_sane : (channels : ℕ) (slots : Slots) (ix : Entries) → word_at ix 0 ≡ 0 → Sane channels slots ix 1
+unfolding balls_in balls_at tab
+first_sane channels slots ix e = record { each = λ j h. only j h }
   where
-    only : (j : ℕ) → j < 1 → BallsOf channels pool ix w j
-    only zero h = rw e (record { balls = balls_none channels (ball_floats (slot_at pool 0)); uncut = λ m. absurd (few_unmarked 0 (omega arith) m) })
+    only : (j : ℕ) → j < 1 → BallsOf channels slots ix j
+    only zero h = rw e (record { balls = balls_none channels (ball_floats (slot_at slots 0)); uncut = λ m. absurd (few_unmarked 0 (omega arith) m) })
     only (suc j) h = absurd (none h)
       where
         none : suc j < 1 → ⊥
         none l = omega arith
 
-pub begun : (run : List Float) (q : Plan) (xs xs₂ : List Float) (ix ix₁ : List ℕ) (pool pool₁ : List Float) (i j₁ j₂ : ℕ) (v : Float) → Room q (length xs) (length ix) (length pool) → Sums run q.n q.channels xs
-    → 1 ≤ q.slots → q.range ≡ range_box (task run q) → Cleared +0 xs xs₂ q.f (q.n + 1) → Cleared 0 ix ix₁ 0 (q.n + 1)
-    → Put pool pool₁ 0 (put_box (slot_at pool 0) q.range) → i ≡ q.f → v ≡ neg q.penalty → j₁ ≡ q.n + 1 → j₂ ≡ 2 * (q.n + 1)
-    → Holds run q (set xs₂ i v) (set (set ix₁ j₁ 0) j₂ 0) pool₁ 1 q.m
+pub begun : (q : Plan) (xs : List Float) (last : List ℕ) (ix : Entries) (slots : Slots) (slot : List Float) (v : Float) → Sound q → Whole slots → 1 ≤ length slots → q.n + 1 ≤ length ix
+    → xs ≡ replicate (q.n + 1) +0 → last ≡ replicate (q.n + 1) 0 → v ≡ neg q.penalty → slot ≡ put_box (slot_at slots 0) q.range → Holds q (set xs 0 v) last (set ix 0 (0 ∷ 0 ∷ [])) (set slots 0 slot) 1 q.m
 unfolding state_after
-begun run q xs xs₂ ix ix₁ pool pool₁ i j₁ j₂ v room su some range fs is put e g e₁ e₂ =
-    let w = q.n + 1 in
-    let iy = set (set ix₁ j₁ 0) j₂ 0 in
-    let long : length (set xs₂ i v) ≡ length xs = length-set xs₂ i v ∙ fs.frame.long in
-    let long₁ : length ix₁ ≡ length ix = is.frame.long in
-    let long₂ : length iy ≡ length ix = length-set (set ix₁ j₁ 0) j₂ 0 ∙ length-set ix₁ j₁ 0 ∙ long₁ in
-    let long₃ : length xs₂ ≡ length xs = fs.frame.long in
+begun q xs last ix slots slot v sound whole some room f l g e =
     let start : q.m - q.m ≡ 0 = omega arith in
-    let tau : get_or iy (w + 0) 0 ≡ 0 = get_or-set_other (set ix₁ j₁ 0) j₂ (w + 0) 0 0 (omega arith) ∙ ap (λ (p : ℕ). get_or (set ix₁ j₁ 0) p 0) (same e₁) ∙ get_or-set_same ix₁ j₁ 0 0 (omega arith) in
-    let balls : get_or iy (2 * w + 0) 0 ≡ 0 = ap (λ (p : ℕ). get_or iy p 0) (same₂ e₂) ∙ get_or-set_same (set ix₁ j₁ 0) j₂ 0 0 (simp length-set (omega arith)) in
-    let box : box_at (slot_at pool₁ 0) ≡ range_box (task run q) = ap box_at put.here ∙ box_put (slot_at pool 0) q.range (slot_long pool 0 (omega arith)) ∙ box_by_numbers q.range (rw range (range_wide (task run q))) ∙ range in
+    let long : length (set slots 0 slot) ≡ length slots = length-set slots 0 slot in
+    let entry : get_or (set ix 0 (0 ∷ 0 ∷ [])) 0 [] ≡ 0 ∷ 0 ∷ [] = get_or-set_same ix 0 (0 ∷ 0 ∷ []) [] (omega arith) in
+    let here : slot_at (set slots 0 slot) 0 ≡ slot = get_or-set_same slots 0 slot [] some in
+    let box : box_at (slot_at (set slots 0 slot) 0) ≡ range_box (task q) = ap box_at (here ∙ e) ∙ box_put (slot_at slots 0) q.range (whole 0 some) ∙ box_by_numbers q.range (rw sound.range (range_wide (task q))) ∙ sound.range in
     record {
-      room = rw (long, long₂, put.frame.long) room;
-      sums = sums_kept (frame_set i v fs.frame (omega arith) (omega arith)) (omega arith) su;
-      range = range;
-      sane = first_sane q.channels pool₁ iy w balls;
+      sound = sound;
+      long_f = length-set xs 0 v ∙ ap length f ∙ length-replicate (q.n + 1) +0;
+      long_last = ap length l ∙ length-replicate (q.n + 1) 0;
+      room = rw (length-set ix 0 (0 ∷ 0 ∷ [])) room;
+      sane = first_sane q.channels (set slots 0 slot) _ (ap (λ (k : List ℕ). get_or k 1 0) entry);
       from = omega arith;
-      few = some;
+      few = rw long some;
       fewer = omega arith;
-      f = rw start (store xs₂ q.f w 0 i v (omega arith) (omega arith) ∙ (rw (cleared_part fs (omega arith), g) refl));
-      last = rw start (part_above (set ix₁ j₁ 0) 0 w j₂ 0 (omega arith) ∙ part_above ix₁ 0 w j₁ 0 (omega arith) ∙ cleared_part is (omega arith));
-      living = rw start (first_living q.channels pool₁ iy w (range_box (task run q)) tau balls box);
-      peak = rw start some;
+      f = rw (start, f, g) refl;
+      last = rw (start, l) refl;
+      living = rw start (first_living q.channels (set slots 0 slot) _ (range_box (task q)) entry box);
+      peak = rw (start, long) some;
     }
-  where
-    same : j₁ ≡ q.n + 1 → q.n + 1 + 0 ≡ j₁
-    same p = omega arith
-
-    same₂ : j₂ ≡ 2 * (q.n + 1) → 2 * (q.n + 1) + 0 ≡ j₂
-    same₂ p = omega arith
 
 -- ---- what is left
 -- no slot for the first candidate
@@ -106,8 +75,13 @@ pub no_slot : (k : Task) (slots : ℕ) (ix : List ℕ) → slots < 1 → Ran k s
 unfolding state_after
 no_slot k slots ix h = record { answer = sym (slots_too_few k 0 slots (omega arith) h); last = λ e. absurd (false≢true e) }
 
-pub ran : {run : List Float} {q : Plan} {xs : List Float} {ix : List ℕ} {pool : List Float} {r : Bool} → Searched run q xs ix pool r → Ran (task run q) q.slots ix r
-ran s = record { answer = s.answer; last = s.last }
+-- the front of what two parts of the indices make
+pub front_part : (xs ys : List ℕ) (n : ℕ) → length xs ≡ n → part (xs ++ ys) 0 n ≡ xs
+unfolding part
+front_part xs ys n e = take-append-le n xs ys (omega arith) ∙ take_all n xs (omega arith)
+
+pub ran : {q : Plan} {last : List ℕ} {slots size : ℕ} {ix : List ℕ} {r : Bool} → Searched q last slots r → slots ≡ size → part ix 0 (q.n + 1) ≡ last → Ran (task q) size ix r
+ran s e f = record { answer = rw (← e) s.answer; last = λ t. f ∙ s.last t }
 
 pub fit_one : (run n k m lf li : ℕ) → fits_task run n k m lf li ≡ true → 1 ≤ k
 unfolding fits_task

@@ -43,6 +43,7 @@ pub(crate) fn sum_channels(run: &[f64], n: usize, channels: usize, floats: &mut 
     requires { (1 ≤ channels) × (channels ≤ functional_channels) × (n ≤ max_readings) × (channels * n ≤ length run.now) × (channels * (2 * (n + 1)) ≤ length floats.old) }
     ensures { (result ≡ range_box (record { run = run.entry.now; n = n; channels = channels; m = 0; penalty = +0 })) × Sums run.entry.now n channels floats.new }
 {
+    // No loop over the channels: the second one's numbers are 0 where it is not there.
     let x = sum_channel(run, channels, n, 0, floats, 0);
     if channels == 1 {
         return Candidate {

@@ -28,22 +28,32 @@ pub const FUNCTIONAL_MAX_CHANNELS: usize = 2;
 // and the 4 with which a new candidate faces it, and then the balls in which the candidate loses.
 const HEADER: usize = 8;
 
-pub const SLOT_FLOATS: usize = HEADER + Candidate::BALLS;
+const BALLS: usize = Candidate::BALLS;
+
+pub const SLOT_FLOATS: usize = HEADER + BALLS;
 
 // What a candidate's word has on top of the number of its balls where they cut nothing from its box; it
 // is above every such number.
 const MARK: usize = 2 * Candidate::LOSING_BALLS;
 
-// What is searched, and where its state stands: F at `f` of the floats, after the sums, and `slots`
-// slots in the pool. Of the indices the first n + 1 are the predecessors, the next n + 1 the living
-// candidates, the next n + 1 their words. `range` is the box of the channels' ranges.
+// A slot of the pool; and the balls of a candidate that has no slot yet.
+type Slot = [f64; SLOT_FLOATS];
+
+type Balls = [f64; BALLS];
+
+// What the indices have of a living candidate: its index, and its word.
+type Entry = [usize; 2];
+
+// What is searched: the run, its running sums, and the box of the ranges of its channels. F, the
+// predecessors, the entries and the slots are lent beside it: in a struct of lent slices each function
+// that changes one would have to say of all four that they are still the same slices.
 #[derive(Clone, Copy)]
-struct Plan {
+struct Plan<'a> {
+    pub run: &'a [f64],
+    pub sums: &'a [f64],
     pub penalty: f64,
     pub n: usize,
     pub m: usize,
     pub channels: usize,
-    pub f: usize,
-    pub slots: usize,
     pub range: Candidate,
 }

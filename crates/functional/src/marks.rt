@@ -13,10 +13,7 @@ use candidate::Candidate;
 pub(crate) fn remarked(word: usize, stayed: bool) -> usize
     ensures { result ≡ cond stayed word (balls_in word) }
 {
-    if stayed {
-        return word;
-    }
-    word % MARK
+    if stayed { word } else { word % MARK }
 }
 
 // The word of a candidate with `balls` balls: marked where its box is `uncut` by them.
@@ -24,10 +21,7 @@ pub(crate) fn marked(balls: usize, uncut: bool) -> usize
     requires { balls ≤ losing_balls }
     ensures { result ≡ cond uncut (balls + 2 * losing_balls) balls }
 {
-    if uncut {
-        return balls + MARK;
-    }
-    balls
+    if uncut { balls + MARK } else { balls }
 }
 
 // Whether `a` and `b` are the same to the bit: zeros of either sign differ, and NaN is like nothing. No
@@ -35,10 +29,7 @@ pub(crate) fn marked(balls: usize, uncut: bool) -> usize
 fn same_number(a: f64, b: f64) -> bool
     ensures { result ≡ true → a ≡ b }
 {
-    if a == b {
-        return f64::to_bits(a) == f64::to_bits(b);
-    }
-    false
+    a == b && a.to_bits() == b.to_bits()
 }
 
 // Whether the boxes `a` and `b` have the same numbers.

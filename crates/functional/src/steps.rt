@@ -1,105 +1,84 @@
 // The steps of the search.
-ghost use Rattle.std.specs.Prelude.{◌≡◌, true, ℕ, ◌+◌, ◌*◌, ◌≤◌, ◌<◌, length, get_or};
+ghost use Rattle.std.specs.Prelude.{◌≡◌, true, ◌+◌, ◌≤◌, ◌<◌, length, get_or};
 ghost use Rattle.std.specs.Float.{nan};
-ghost use Rattle.candidate_balls.specs.Losing.{losing_balls};
 ghost use Rattle.floats.specs.Numbers.{◌+ᶠ◌};
-ghost use Rattle.areas.specs.Parts.{part};
-ghost use Rattle.sums.specs.EachChannel.{Sums};
 ghost use Rattle.search_rules.specs.Minimum.{scan_to};
 ghost use Rattle.search_rules.specs.Functional.{price};
-ghost use Rattle.functional.specs.Inner.Held.{Room, task, taus, AllBelow, Holds, Stepped, Searched};
+ghost use Rattle.functional.specs.Inner.Held.{Sound, task, taus, AllBelow, Holds, Stepped, Searched};
 
-use crate::Plan;
 use crate::birth::birth;
-use crate::slots::{float_at, index_at};
+use crate::{BALLS, Balls, Entry, Plan, Slot};
 use costs::{CostFunction, cost_of};
 use search_rules::{Best, better, none_yet};
 
-// The total by which `tau` is the last cut before `t`: F(tau), the cost from `tau` to `t`, and the
-// penalty. The readings go along for the contract alone.
-fn total_of(run: &[f64], floats: &[f64], plan: Plan, tau: usize, t: usize) -> f64
-    requires { (tau < t) × (t ≤ plan.n) × Sums run.now plan.n plan.channels floats.now × ((li : ℕ) × (lp : ℕ) × Room plan (length floats.now) li lp) }
-    ensures { result ≡ get_or (part floats.now plan.f (plan.n + 1)) tau nan +ᶠ price (task run.now plan) tau t +ᶠ plan.penalty }
-{
-    let f = plan.f;
-    float_at(floats, f + tau)
-        + cost_of(CostFunction::L2, floats, plan.n, plan.channels, tau, t)
-        + plan.penalty
+impl Plan<'_> {
+    // The total by which `tau` is the last cut before `t`: F(tau), the cost from `tau` to `t`, and the
+    // penalty. F stands in `f`.
+    fn total_of(self, f: &[f64], tau: usize, t: usize) -> f64
+        requires { Sound self × (tau < t) × (t ≤ self.n) × (length f.now ≡ self.n + 1) }
+        ensures { result ≡ get_or f.now tau nan +ᶠ price (task self.entry) tau t +ᶠ self.entry.penalty }
+    {
+        let cost = cost_of(CostFunction::L2, self.sums, self.n, self.channels, tau, t);
+        f[tau] + cost + self.penalty
+    }
 }
 
-// The best of the `count` living candidates at `t`. Cost: one turn for each.
-fn best_of(
-    run: &[f64],
-    floats: &[f64],
-    indices: &[usize],
-    plan: Plan,
-    count: usize,
-    t: usize,
-) -> Best
-    requires { (t ≤ plan.n) × (count ≤ plan.n + 1) × Sums run.now plan.n plan.channels floats.now × ((lp : ℕ) × Room plan (length floats.now) (length indices.now) lp) × AllBelow t indices.now (plan.n + 1) count }
-    ensures { result ≡ scan_to (λ tau. true) (λ tau. get_or (part floats.now plan.f (plan.n + 1)) tau nan +ᶠ price (task run.now plan) tau t +ᶠ plan.penalty) (taus indices.now (plan.n + 1) count) count }
+// The best of the living candidates at `t`. Cost: one turn for each.
+fn best_of(plan: Plan, f: &[f64], entries: &[Entry], t: usize) -> Best
+    requires { Sound plan × (length f.now ≡ plan.n + 1) × (t ≤ plan.n) × AllBelow t entries.now (length entries.now) }
+    ensures { result ≡ scan_to (λ tau. true) (λ tau. get_or f.now tau nan +ᶠ price (task plan.entry) tau t +ᶠ plan.entry.penalty) (taus entries.now (length entries.now)) (length entries.now) }
 {
-    let w = plan.n + 1;
     let mut best = none_yet();
-    let mut j = 0;
-    while j < count {
-        let tau = index_at(indices, w + j);
-        let total = total_of(run, floats, plan, tau, t);
-        best = better(best, total, tau);
-        j += 1;
+    for [tau, _] in entries {
+        best = better(best, plan.total_of(f, *tau, t), *tau);
     }
     best
 }
 
-// The step at `t`, with `count` living candidates; says how many live after it.
+// The step at `t`, with `count` living candidates; says how many live after it. These are at the front of
+// the entries and the slots, which stay whole here, since a birth stores behind them.
 fn step(
-    run: &[f64],
-    floats: &mut [f64],
-    indices: &mut [usize],
-    pool: &mut [f64],
-    born: &mut [f64],
     plan: Plan,
+    f: &mut [f64],
+    last: &mut [usize],
+    entries: &mut [Entry],
+    slots: &mut [Slot],
+    born: &mut Balls,
     count: usize,
     t: usize,
 ) -> usize
-    requires { Holds run.now plan floats.old indices.old pool.old count t × (t ≤ plan.n) × (length born.old ≡ 3 * losing_balls) }
-    ensures { Stepped run.now plan floats.new indices.new pool.new t result }
+    requires { Holds plan f.old last.old entries.old slots.old count t × (t ≤ plan.n) }
+    ensures { Stepped plan.entry f.new last.new entries.new slots.new t result }
 {
-    let best = best_of(run, floats, indices, plan, count, t);
-    let f = plan.f;
-    let m = plan.m;
-    floats[f + t] = best.cost;
-    indices[t] = best.tau;
-    let b = t + 1 - m;
-    if b < m {
+    let best = best_of(plan, f, &entries[..count], t);
+    f[t] = best.cost;
+    last[t] = best.tau;
+    let b = t + 1 - plan.m;
+    if b < plan.m {
         return count;
     }
-    birth(run, floats, indices, pool, born, plan, count, b)
+    birth(plan, f, entries, slots, born, count, b)
 }
 
 // Every step from t = m to n, until there are more candidates than slots; says whether there never were.
-// The balls of a new candidate are gathered in `born`. Cost: one step for each t.
+// Cost: one step for each t.
 pub(crate) fn search(
-    run: &[f64],
-    floats: &mut [f64],
-    indices: &mut [usize],
-    pool: &mut [f64],
-    born: &mut [f64],
     plan: Plan,
+    f: &mut [f64],
+    last: &mut [usize],
+    entries: &mut [Entry],
+    slots: &mut [Slot],
 ) -> bool
-    requires { Holds run.now plan floats.old indices.old pool.old 1 plan.m × (length born.old ≡ 3 * losing_balls) }
-    ensures { Searched run.now plan floats.new indices.new pool.new result }
+    requires { Holds plan f.old last.old entries.old slots.old 1 plan.m }
+    ensures { Searched plan.entry last.new (length slots.old) result }
 {
-    let n = plan.n;
-    let slots = plan.slots;
+    let mut born = [0.0; BALLS];
     let mut count = 1;
-    let mut t = plan.m;
-    while t <= n {
-        count = step(run, floats, indices, pool, born, plan, count, t);
-        if slots < count {
+    for t in plan.m..plan.n + 1 {
+        count = step(plan, f, last, entries, slots, &mut born, count, t);
+        if slots.len() < count {
             return false;
         }
-        t += 1;
     }
     true
 }

@@ -16,6 +16,8 @@ use Rattle.sums.proofs.ChannelLaws.{mul_more}
 use Rattle.costs.specs.Costs.{segment_of, segment_about, cost_of, cost_to}
 use Rattle.search_rules.specs.Minimum.{scan_to, kept_to}
 use Rattle.search_rules.specs.Inequality.{State, old_enough, part_of, best_at, price}
+use Rattle.areas.specs.Parts.{part}
+use Rattle.areas.proofs.PartLaws.{part_at}
 use Rattle.inequality.specs.declared.Plan.{Plan}
 use Rattle.inequality.specs.Inner.Held.{planned, run_of, Runs}
 use Rattle.inequality.specs.Inner.Weights.{Parted, Written, segment_by, cost_by, weight_by, lowest_by}
@@ -57,25 +59,25 @@ cost_of_lem run q xs cs f t j (suc c) r h l g = ap₂ ◌+ᶠ◌ (cost_of_lem ru
 
 -- ---- a weight
 pub part_of_lem : (run : List Float) (q : Plan) (xs ys : List Float) (ix : List ℕ) (cs : List ℕ) (f : List Float) (t old j : ℕ) → Runs run q xs cs f t → t ≤ q.n → Parted q.m t cs old
-    → Written xs ys q.p (weight_by q xs ix old t) (length cs) → ((i : ℕ) → i < length cs → get_or ix (q.c + i) 0 ≡ get_or cs i 0) → j < length cs
+    → Written xs ys q.p (weight_by q xs (part ix q.c old) old t) (length cs) → ((i : ℕ) → i < length cs → get_or ix (q.c + i) 0 ≡ get_or cs i 0) → j < length cs
     → get_or ys (q.p + j) nan ≡ part_of (planned run q) q.m f t (get_or cs j 0)
 unfolding weight_by part_of price
 part_of_lem run q xs ys ix cs f t old j r h p w e l = written_at j nan w l ∙ side (leb old j) refl
   where
-    side : (b : Bool) → leb old j ≡ b → weight_by q xs ix old t j ≡ part_of (planned run q) q.m f t (get_or cs j 0)
+    side : (b : Bool) → leb old j ≡ b → weight_by q xs (part ix q.c old) old t j ≡ part_of (planned run q) q.m f t (get_or cs j 0)
     side true k = let g = leb-true old j k in rw (le-ltb j old g, p.tail j g l) refl
     side false k =
         let g = leb-false old j k in
-        rw (lt-ltb j old g, p.front j g, e j l) (ap₂ ◌+ᶠ◌ (r.least j l) (cost_of_lem run q xs cs f t j q.channels r h l (omega arith)))
+        rw (lt-ltb j old g, p.front j g, sym (part_at ix q.c old j 0 g) ∙ e j l) (ap₂ ◌+ᶠ◌ (r.least j l) (cost_of_lem run q xs cs f t j q.channels r h l (omega arith)))
 
 -- ---- the best
-scan_front : (q : Plan) (ys : List Float) (ix : List ℕ) (takes : ℕ → Bool) (weight : ℕ → Float) (cs : List ℕ) (j : ℕ) → ((i : ℕ) → i < j → get_or ys (q.p + i) nan ≡ weight (get_or cs i 0))
-    → ((i : ℕ) → i < j → get_or ix (q.c + i) 0 ≡ get_or cs i 0) → ((i : ℕ) → i < j → takes (get_or cs i 0) ≡ true)
-    → lowest_by q ys ix j ≡ scan_to takes (λ tau. weight tau +ᶠ q.penalty) cs j
+scan_front : (penalty : Float) (ys : List Float) (ix : List ℕ) (takes : ℕ → Bool) (weight : ℕ → Float) (cs : List ℕ) (j : ℕ) → ((i : ℕ) → i < j → get_or ys i nan ≡ weight (get_or cs i 0))
+    → ((i : ℕ) → i < j → get_or ix i 0 ≡ get_or cs i 0) → ((i : ℕ) → i < j → takes (get_or cs i 0) ≡ true)
+    → lowest_by penalty ys ix j ≡ scan_to takes (λ tau. weight tau +ᶠ penalty) cs j
 unfolding lowest_by scan_to
-scan_front q ys ix takes weight cs zero e f o = refl
-scan_front q ys ix takes weight cs (suc j) e f o =
-    rw (o j (omega arith), e j (omega arith), f j (omega arith), scan_front q ys ix takes weight cs j (λ i h. e i (omega arith)) (λ i h. f i (omega arith)) (λ i h. o i (omega arith))) refl
+scan_front penalty ys ix takes weight cs zero e f o = refl
+scan_front penalty ys ix takes weight cs (suc j) e f o =
+    rw (o j (omega arith), e j (omega arith), f j (omega arith), scan_front penalty ys ix takes weight cs j (λ i h. e i (omega arith)) (λ i h. f i (omega arith)) (λ i h. o i (omega arith))) refl
 
 scan_tail : (takes : ℕ → Bool) (total : ℕ → Float) (cs : List ℕ) (old d : ℕ) → ((j : ℕ) → old ≤ j → j < old + d → takes (get_or cs j 0) ≡ false) → scan_to takes total cs (old + d) ≡ scan_to takes total cs old
 unfolding scan_to
@@ -87,13 +89,16 @@ scan_tail takes total cs old (suc d) f =
 pub best_of : (run : List Float) (q : Plan) (ys : List Float) (ix : List ℕ) (s : State) (t old : ℕ) → Parted q.m t s.candidates old
     → ((i : ℕ) → i < length s.candidates → get_or ys (q.p + i) nan ≡ part_of (planned run q) q.m s.f t (get_or s.candidates i 0))
     → ((i : ℕ) → i < length s.candidates → get_or ix (q.c + i) 0 ≡ get_or s.candidates i 0)
-    → lowest_by q ys ix old ≡ best_at (planned run q) q.penalty q.m t s
+    → lowest_by q.penalty (part ys q.p old) (part ix q.c old) old ≡ best_at (planned run q) q.penalty q.m t s
 unfolding best_at
 best_of run q ys ix s t old p e f =
     let few = p.few in
     let d : old + (length s.candidates - old) ≡ length s.candidates = omega arith in
     let weight : ℕ → Float = part_of (planned run q) q.m s.f t in
-    scan_front q ys ix (old_enough q.m t) weight s.candidates old (λ i h. e i (omega arith)) (λ i h. f i (omega arith)) p.front
+    scan_front q.penalty (part ys q.p old) (part ix q.c old) (old_enough q.m t) weight s.candidates old
+    (λ i h. sym (part_at ys q.p old i nan h) ∙ e i (omega arith))
+    (λ i h. sym (part_at ix q.c old i 0 h) ∙ f i (omega arith))
+    p.front
     ∙ sym (scan_tail (old_enough q.m t) (λ tau. weight tau +ᶠ q.penalty) s.candidates old (length s.candidates - old) (λ j h l. p.tail j h (omega arith)))
     ∙ ap (scan_to (old_enough q.m t) (λ tau. weight tau +ᶠ q.penalty) s.candidates) d
 

@@ -1,6 +1,8 @@
+pub mod ViewLaws
 pub mod WrittenLaws
 pub mod WeightLaws
 pub mod LowestLaws
+pub mod FilledLaws
 pub mod KeepingLaws
 pub mod CandidateLaws
 pub mod DecisionLaws

@@ -1,10 +1,10 @@
 -- Laws of the whole search: the plan's room, what is left where the search fits and where it does not, and that one outcome alone meets `Pruned`. Assumes nothing.
 use Prim.Native.Nat.{ℕ, ◌+◌, ◌-◌, ◌*◌}
 use mathlib.Core.Bool.{Bool, true, false, true≢false}
-use mathlib.Core.Path.{◌≡◌, refl, sym, ap, ◌∙◌}
+use mathlib.Core.Path.{◌≡◌, refl, sym, ap, ap₂, ◌∙◌}
 use mathlib.Core.List.{List, ◌++◌}
 use native.Mathlib.Omega.{arith}
-use lib.ListN.{length, take, replicate}
+use lib.ListN.{length, take, replicate, length-append}
 use lib.Ieee.{Float}
 use Rattle.floats.specs.Numbers.{+0}
 use Rattle.areas.specs.Parts.{part}
@@ -12,7 +12,7 @@ use Rattle.areas.specs.Cleared.{Cleared}
 use Rattle.areas.proofs.ClearedLaws.{cleared_whole, cleared_tail}
 use Rattle.costs.specs.declared.CostFunction.{CostFunction}
 use Rattle.search_rules.specs.Room.{search_fits}
-use Rattle.search_rules.proofs.RoomLaws.{Series, Roomy, split_floats}
+use Rattle.search_rules.proofs.RoomLaws.{Series, Roomy, fits_series, split_floats}
 use Rattle.search_rules.specs.Inequality.{predecessors}
 use Rattle.inequality.specs.declared.Plan.{Plan}
 use Rattle.inequality.specs.Pruned.{Pruned}
@@ -36,6 +36,17 @@ plan_room cost penalty run n k m lf li f p c s r e g h =
       last = h;
       c = omega (arith, r.indices);
     }
+
+-- what the test has found, in the words of its contract
+pub fits_of : {fits : Bool} (run n k m lf li : ℕ) → fits ≡ search_fits run n k m lf li → fits ≡ true → search_fits run n k m lf li ≡ true
+fits_of run n k m lf li e t = sym e ∙ t
+
+pub series_of : {fits : Bool} (run n k m lf li : ℕ) → fits ≡ search_fits run n k m lf li → fits ≡ true → Series run n k m
+series_of run n k m lf li e t = fits_series run n k m lf li (fits_of run n k m lf li e t)
+
+-- an area whose two parts stay as long as they were is as long as it was
+pub as_long : {A : Type 0} (x y u v : List A) {zs : List A} (ws : List A) → length u ≡ length x → length v ≡ length y → zs ≡ x ++ y → length zs ≡ length ws → length (u ++ v) ≡ length ws
+as_long x y u v ws eu ev e l = length-append u v ∙ ap₂ (λ (i j : ℕ). i + j) eu ev ∙ sym (length-append x y) ∙ ap length (sym e) ∙ l
 
 -- ---- what is left
 pub pruned_found : (q : Plan) (run xs xs₁ xs₂ : List Float) (ix ix₁ ix₂ : List ℕ) (count size place long : ℕ)

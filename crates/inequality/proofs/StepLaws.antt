@@ -4,7 +4,8 @@ use mathlib.Core.Path.{◌≡◌, refl, sym, ap, ◌∙◌, subst}
 use mathlib.Core.List.{List, [], ◌∷◌, ◌++◌}
 use mathlib.Core.Logic.{◌≢◌}
 use native.Mathlib.Omega.{arith}
-use lib.ListN.{length, get_or, set, length-set}
+use lib.ListN.{length, get_or, set, take, length-set, length-append}
+use Rattle.std.proofs.lemmas.List.{set-append_left, set-append_right, drop_at}
 use lib.Seq.{get_or-set_other, get_or-set_same}
 use lib.Ieee.{Float, nan}
 use Rattle.floats.specs.Numbers.{◌+ᶠ◌}
@@ -19,7 +20,8 @@ use Rattle.inequality.specs.Inner.Held.{Room, planned, run_of, AllBelow, Rising,
 use Rattle.inequality.specs.Inner.Weights.{Parted, Written, weight_by, lowest_by}
 use Rattle.inequality.specs.Inner.Staying.{stay_count, kept_by, Retained, RetainedRuns, Joined}
 use Rattle.inequality.proofs.WrittenLaws.{at_front, at_back, written_all}
-use Rattle.inequality.proofs.KeepingLaws.{run_room}
+use Rattle.inequality.proofs.KeepingLaws.{run_room, retained_behind, joined_behind}
+use Rattle.inequality.proofs.LowestLaws.{lowest_slices}
 use Rattle.inequality.proofs.CandidateLaws.{kept_below, rising_next, below_next, next_at}
 use Rattle.inequality.proofs.DecisionLaws.{part_of_lem, best_of, kept_is, kept_at}
 
@@ -27,8 +29,8 @@ use Rattle.inequality.proofs.DecisionLaws.{part_of_lem, best_of, kept_is, kept_a
 pub record Done (q : Plan) (xs x₁ x₂ x₃ : List Float) (ix ix₂ : List ℕ) (count t old kept : ℕ) (b : Best) : Type 0 where
   pub early : t ≤ q.n
   pub parted : Parted q.m t (part ix q.c count) old
-  pub weighed : Written xs x₁ q.p (weight_by q xs ix old t) count
-  pub best : b ≡ lowest_by q x₁ ix old
+  pub weighed : Written xs x₁ q.p (weight_by q xs (part ix q.c old) old t) count
+  pub best : b ≡ lowest_by q.penalty (part x₁ q.p old) (part ix q.c old) old
   pub runs : RetainedRuns (b.cost +ᶠ q.penalty) q x₁ x₂ count (2 * q.channels + 1)
   pub indices : Retained (b.cost +ᶠ q.penalty) x₁ q.p 0 (set ix t b.tau) ix₂ q.c count count kept
   pub joined : Joined q x₂ x₃ kept t (2 * q.channels)
@@ -174,22 +176,46 @@ holds_next {run} {q} {xs} {ix} {count} {t} h s = subst (λ (n : State). Shown ru
 pub holds_at : {run : List Float} {q : Plan} {xs : List Float} {ix : List ℕ} {count t u : ℕ} → t ≡ u → Holds run q xs ix count t → Holds run q xs ix count u
 holds_at {run} {q} {xs} {ix} {count} {t} {u} e h = subst (λ (k : ℕ). Holds run q xs ix count k) e h
 
+-- what stands behind `ps`
+pub part_behind : (ps cs : List ℕ) (b n : ℕ) → length ps ≡ b → part (ps ++ cs) b n ≡ take n cs
+unfolding part
+part_behind ps cs b n e = ap (take n) (drop_at ps cs b e)
+
+-- the step with the areas split, as the code has them: of the floats the weights are `ws` before the step and `vs` in it
+pub stepped_parts : (run : List Float) (q : Plan) (xs ws vs ys zs : List Float) (ps cs cs₂ : List ℕ) (count t old kept many size : ℕ) (b : Best) (s : State) → Shown run q (xs ++ ws) (ps ++ cs) count t s
+    → length xs ≡ q.p → length ps ≡ q.c → length ys ≡ q.p → t ≤ q.n → Parted q.m t (take count cs) old → size ≡ old → Written (xs ++ ws) (xs ++ vs) q.p (weight_by q (xs ++ ws) (take old cs) size t) count
+    → many ≡ old → b ≡ lowest_by q.penalty (take old vs) (take old cs) many
+    → RetainedRuns (b.cost +ᶠ q.penalty) q (xs ++ vs) (ys ++ vs) count (2 * q.channels + 1) → Retained (b.cost +ᶠ q.penalty) vs 0 0 cs cs₂ 0 count count kept → Joined q ys zs kept t (2 * q.channels)
+    → Shown run q (set zs (q.f + kept) b.cost ++ vs) (set ps t b.tau ++ set cs₂ kept t) (kept + 1) (t + 1) (step_of (planned run q) q.penalty q.m t s)
+stepped_parts run q xs ws vs ys zs ps cs cs₂ count t old kept many size b s h lx lp ly early parted es weighed em best runs indices joined =
+    let room = h.room in
+    let fewer : kept ≤ t = omega (arith, indices.few, h.few, room.some) in
+    let first : set (ps ++ cs) t b.tau ≡ set ps t b.tau ++ cs = set-append_left ps cs t b.tau (omega (arith, lp, room.last, early)) in
+    let longer : length (set ps t b.tau) ≡ q.c = length-set ps t b.tau ∙ lp in
+    let o : q.c + kept - q.c ≡ kept = omega arith in
+    let floats : set (zs ++ vs) (q.f + kept) b.cost ≡ set zs (q.f + kept) b.cost ++ vs = set-append_left zs vs (q.f + kept) b.cost (omega (arith, joined.frame.long, ly, room.p, fewer, early)) in
+    let last : set (set ps t b.tau ++ cs₂) (q.c + kept) t ≡ set ps t b.tau ++ set cs₂ kept t = set-append_right (set ps t b.tau) cs₂ q.c (q.c + kept) t longer (omega arith) ∙ ap (λ (k : ℕ). set ps t b.tau ++ set cs₂ k t) o in
+    rw (← floats, ← last)
+    (stepped run q (xs ++ ws) (xs ++ vs) (ys ++ vs) (zs ++ vs) (ps ++ cs) (set ps t b.tau ++ cs₂) count t old kept b s h
+    (record {
+      early = early;
+      parted = rw (part_behind ps cs q.c count lp) parted;
+      weighed = rw (part_behind ps cs q.c old lp) (rw es at weighed);
+      best = lowest_slices q.penalty xs vs ps cs q.p q.c old many b lx lp em best;
+      runs = runs;
+      indices = rw first (retained_behind _ xs vs q.p 0 (set ps t b.tau) cs cs₂ q.c count kept lx longer indices);
+      joined = joined_behind q ys zs vs kept t (2 * q.channels) joined (omega (arith, ly, room.p, room.f)) (omega (arith, fewer, early)) early;
+    }))
+
 -- ---- what a step's calls ask
+pub room_parts : {q : Plan} (xs ws : List Float) (ps cs : List ℕ) → Room q (length (xs ++ ws)) (length (ps ++ cs)) → Room q (length xs + length ws) (length ps + length cs)
+room_parts {q} xs ws ps cs r = rw (← length-append xs ws, ← length-append ps cs) r
+
 pub count_few : {run : List Float} {q : Plan} {xs : List Float} {ix : List ℕ} {count t : ℕ} {s : State} → Shown run q xs ix count t s → count ≤ t
 count_few h = omega (arith, h.few, h.room.some)
 
-pub count_room : {run : List Float} {q : Plan} {xs : List Float} {ix : List ℕ} {count t : ℕ} {s : State} → Shown run q xs ix count t s → t ≤ q.n → q.c + count ≤ length ix
-count_room h l = omega (arith, h.few, h.room.some, h.room.c)
+pub shown_below : {run : List Float} {q : Plan} {xs : List Float} (ps cs : List ℕ) {count t : ℕ} {s : State} → length ps ≡ q.c → Shown run q xs (ps ++ cs) count t s → AllBelow t (take count cs)
+shown_below {q = q} ps cs {count} {t} l h = subst (AllBelow t) (sym h.candidates ∙ part_behind ps cs q.c count l) h.below
 
-pub shown_below : {run : List Float} {q : Plan} {xs : List Float} {ix : List ℕ} {count t : ℕ} {s : State} → Shown run q xs ix count t s → AllBelow t (part ix q.c count)
-shown_below {t = t} h = subst (AllBelow t) (sym h.candidates) h.below
-
-pub shown_rising : {run : List Float} {q : Plan} {xs : List Float} {ix : List ℕ} {count t : ℕ} {s : State} → Shown run q xs ix count t s → Rising (part ix q.c count)
-shown_rising h = subst Rising (sym h.candidates) h.rising
-
-pub old_few : (m t : ℕ) (ix : List ℕ) (b count old : ℕ) → Parted m t (part ix b count) old → b + count ≤ length ix → old ≤ count
-old_few m t ix b count old p h = omega (arith, p.few, part_length ix b count h)
-
-pub room_again : (q : Plan) (lf li lf' li' : ℕ) → Room q lf li → lf' ≡ lf → q.c + (q.n + 1) ≤ li' → Room q lf' li'
-room_again q lf li lf' li' r e h =
-    record { short = r.short; few = r.few; some = r.some; ripe = r.ripe; f = r.f; p = r.p; floats = rw e r.floats; last = r.last; c = h }
+pub shown_rising : {run : List Float} {q : Plan} {xs : List Float} (ps cs : List ℕ) {count t : ℕ} {s : State} → length ps ≡ q.c → Shown run q xs (ps ++ cs) count t s → Rising (take count cs)
+shown_rising {q = q} ps cs {count} l h = subst Rising (sym h.candidates ∙ part_behind ps cs q.c count l) h.rising

@@ -1,12 +1,12 @@
--- Laws of values that were written one after the other, and of what a frame leaves at an index. Assumes nothing.
+-- Laws of values that were written, and of what a frame leaves at an index. Assumes nothing.
 use Prim.Native.Nat.{ℕ, ◌+◌, ◌-◌, ◌≤◌, ◌<◌}
-use mathlib.Core.Path.{◌≡◌, refl, sym, ap, ◌∙◌, subst}
+use mathlib.Core.Path.{◌≡◌, sym, ap, ◌∙◌, subst}
 use mathlib.Core.List.{List}
 use native.Mathlib.Omega.{arith}
-use lib.ListN.{length, get_or, set}
-use lib.Seq.{get_or-take, get_or-drop, ext_get_or, take_all}
+use lib.ListN.{length, get_or}
+use lib.Seq.{get_or-take, get_or-drop, ext_get_or}
 use Rattle.areas.specs.Parts.{part, tab, Frame}
-use Rattle.areas.proofs.PartLaws.{part_at, part_length, tab_at, tab_length, grow, frame_refl, frame_set, frame_wide}
+use Rattle.areas.proofs.PartLaws.{part_at, part_length, tab_at, tab_length}
 use Rattle.inequality.specs.Inner.Weights.{Written}
 
 module _ {A : Type 0} where
@@ -24,18 +24,6 @@ module _ {A : Type 0} where
       ∙ ap (λ (k : ℕ). get_or x k d) e
 
   -- ---- values written
-  pub written_none : (x : List A) (b : ℕ) (g : ℕ → A) → Written x x b g 0
-  unfolding part tab
-  written_none x b g = record { held = refl; frame = frame_refl x b 0 }
-
-  pub written_more : {x y : List A} {b : ℕ} {g : ℕ → A} {j : ℕ} (i : ℕ) (v : A) → Written x y b g j → i ≡ b + j → i < length y → v ≡ g j
-      → Written x (set y i v) b g (j + 1)
-  written_more {x} {y} {b} {g} {j} i v w e h q =
-      record {
-        held = grow g y b j i v w.held e h q;
-        frame = frame_set i v (frame_wide b (j + 1) w.frame (omega arith) (omega arith)) (omega arith) (omega arith);
-      }
-
   pub written_all : {x y : List A} {b : ℕ} {g : ℕ → A} {i j : ℕ} → i ≡ j → Written x y b g i → Written x y b g j
   written_all {x} {y} {b} {g} e w = subst (λ (k : ℕ). Written x y b g k) e w
 
@@ -51,8 +39,3 @@ module _ {A : Type 0} where
             (λ i l. let k : i < n = rw (part_length y b n h) at l in sym (part_at y b n i d k) ∙ e i k ∙ sym (tab_at g n i d k));
         frame = f;
       }
-
-  -- where the whole list was written
-  pub written_whole : {x y : List A} {g : ℕ → A} {n : ℕ} → Written x y 0 g n → n ≡ length x → y ≡ tab g n
-  unfolding part
-  written_whole {x} {y} {g} {n} w e = sym (take_all n y (omega (arith, w.frame.long))) ∙ w.held

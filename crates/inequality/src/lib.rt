@@ -14,6 +14,7 @@ mod lowest;
 mod normal;
 mod pruned;
 mod steps;
+mod views;
 mod weights;
 
 use costs::CostFunction;
@@ -23,7 +24,8 @@ pub use pruned::partition_pruned;
 // front and the candidates at `c`. The floats are parts of n + 1 floats: two for each channel, its sums
 // and those of the squares, then F's at `f`, and the weights of the candidates at `p`. A part of sums,
 // or F's, has at its front what belongs to the candidates, in their order, so that a loop over them goes
-// from float to float; from t on the sums stand by index, for the steps to come.
+// from float to float; from t on the sums stand by index, for the steps to come. The areas are split at
+// `c` and at `p` before the first step.
 #[derive(Clone, Copy)]
 struct Plan {
     pub cost: CostFunction,

@@ -5,7 +5,7 @@ ghost use Rattle.inequality.specs.Pruned.{Pruned};
 
 use crate::Plan;
 use crate::steps::search;
-use areas::{clear_floats, clear_indices};
+use areas::clear;
 use costs::CostFunction;
 use search_rules::search_fits;
 use sums::channel_sums;
@@ -20,7 +20,7 @@ fn begin(run: &[f64], floats: &mut [f64], indices: &mut [usize], plan: Plan)
     let c = plan.c;
     channel_sums(run, plan.n, plan.channels, floats);
     floats[f] = -plan.penalty;
-    clear_indices(indices, 0, plan.n + 1);
+    clear(indices, 0, plan.n + 1);
     indices[c] = 0;
 }
 
@@ -54,8 +54,10 @@ pub fn partition_pruned(
             c: w,
         };
         begin(run, floats, indices, plan);
-        search(run, floats, indices, plan);
-        clear_floats(floats, 0, floats.len());
-        clear_indices(indices, w, indices.len());
+        let (parts, weights) = floats.split_at_mut(plan.p);
+        let (predecessors, candidates) = indices.split_at_mut(plan.c);
+        search(run, parts, weights, predecessors, candidates, plan);
+        clear(floats, 0, floats.len());
+        clear(indices, w, indices.len());
     }
 }

@@ -1,53 +1,30 @@
--- Laws of groups of 16 values: how they are read, turned and put back. Assumes nothing.
-use Prim.Native.Nat.{ℕ, suc, ◌+◌, ◌-◌, ◌*◌, ◌≤◌, ◌<◌}
-use mathlib.Core.Path.{◌≡◌, refl, sym, ap, ap₂, subst, ◌∙◌}
+-- Laws of groups of 16 values: arrays that calls made, and the turns of a sum. Assumes nothing.
+use Prim.Native.Nat.{ℕ, zero, suc, ◌+◌, ◌-◌, ◌*◌, ◌≤◌, ◌<◌}
+use mathlib.Core.Path.{◌≡◌, sym, ap, ap₂, subst, ◌∙◌}
 use mathlib.Core.List.{List}
-use native.Mathlib.Nat.{not-suc-le-zero}
+use native.Mathlib.Nat.{eq-or-lt_of_le}
+use mathlib.Core.Logic.{inl, inr}
 use native.Mathlib.Omega.{arith}
 use native.Mathlib.Decide.{dec_le}
-use lib.ListN.{length, get_or, set, replicate, get_or-replicate}
-use lib.Seq.{get_or-set_same}
+use lib.ListN.{get_or, replicate, get_or-replicate}
 use lib.Ieee.{Float, nan}
+use Rattle.std.specs.Array.{IsFromFnResult, IsFromFnResultFrom}
+use Rattle.std.specs.Fn.{Mut, Called}
 use Rattle.floats.specs.Numbers.{◌+ᶠ◌, ◌*ᶠ◌, ◌/ᶠ◌, of_whole}
 use Rattle.elementary.specs.Logarithm.{series}
 use Rattle.logarithms.specs.Inner.Stages.{Begun, Each, Filled, Put}
-use Rattle.logarithms.proofs.EachLaws.{up_to, other, before}
 
-pub filled_none : {f : ℕ → Float} {xs : List Float} → Filled f 0 xs
-filled_none = record { each = λ i h. absurd (not-suc-le-zero h) }
-
-pub filled_more : {f : ℕ → Float} {xs : List Float} {n : ℕ} {v : Float} → Filled f n xs → n < length xs → v ≡ f n → Filled f (n + 1) (set xs n v)
-filled_more {f} {xs} {n} {v} p l e = record {
-  each = up_to {P = λ i. get_or (set xs n v) i nan ≡ f i} n
-      (λ i h. other xs n i v (λ d. before d h) ∙ p.each i h)
-      (get_or-set_same xs n v nan l ∙ e);
-}
-
-pub filled_fewer : {f : ℕ → Float} {xs : List Float} {m n : ℕ} → m ≤ n → Filled f n xs → Filled f m xs
-filled_fewer l p = record { each = λ i h. p.each i (omega (arith, l, h)) }
-
-pub put_none : {place : ℕ} {group xs : List Float} → Put place 0 group xs xs
-put_none = record { stored = λ i h. absurd (not-suc-le-zero h); same = λ i h. refl }
-
-pub put_more : {place n : ℕ} {group xs ys : List Float} {v : Float} → Put place n group xs ys → place + n < length ys → v ≡ get_or group n nan → Put place (n + 1) group xs (set ys (place + n) v)
-put_more {place} {n} {group} {xs} {ys} {v} p l e = record {
-  stored = up_to {P = λ i. get_or (set ys (place + n) v) (place + i) nan ≡ get_or group i nan} n
-      (λ i h. other ys (place + n) (place + i) v (λ d. behind i d h) ∙ p.stored i h)
-      (get_or-set_same ys (place + n) v nan l ∙ e);
-  same = λ i h. other ys (place + n) i v (λ d. front i d h) ∙ p.same i h;
-}
+-- an array that was made by calls, each of which leaves `g` as it was and answers `f` of its index
+pub filled_by_calls : {G : Type 0} {calls : Mut G (ℕ × Unit {0}) Float} {g : G} {xs : List Float} {n : ℕ} (f : ℕ → Float) → IsFromFnResult calls g xs n
+    → ((i : ℕ) (x : Float) (h : G) → Called calls g (i, tt) x h → (h ≡ g) × (x ≡ f i)) → Filled f n xs
+filled_by_calls {G} {calls} {g} {xs} {n} f made call = record { each = λ i h. from 0 n made.each i (omega arith) (omega (arith, h)) }
   where
-    behind : (i : ℕ) → place + i ≡ place + n → i < n → ⊥
-    behind i d h = omega (arith, d, h)
-
-    front : (i : ℕ) → i ≡ place + n → i < place → ⊥
-    front i d h = omega (arith, d, h)
-
-pub put_fewer : {place m n : ℕ} {group xs ys : List Float} → m ≤ n → Put place n group xs ys → Put place m group xs ys
-put_fewer l p = record { stored = λ i h. p.stored i (omega (arith, l, h)); same = p.same }
-
-pub each_fewer : {R : Float → Float → Type 0} {xs ys : List Float} {m n : ℕ} → m ≤ n → Each R n xs ys → Each R m xs ys
-each_fewer l f = record { each = λ i h. f.each i (omega (arith, l, h)) }
+    from : (start n : ℕ) → IsFromFnResultFrom calls g xs start n → (i : ℕ) → start ≤ i → i < start + n → get_or xs i nan ≡ f i
+    from start zero m i l h = absurd (omega (arith, l, h))
+    from start (suc n) m i l h = let answer = call start m.1 m.0 m.3 in elim (eq-or-lt_of_le l) [
+      | inl e ↦ rw (← e) (m.2.1 nan ∙ answer.1)
+      | inr later ↦ from (start + 1) n (subst (λ (k : G). IsFromFnResultFrom calls k xs (start + 1) n) answer.0 m.4) i (omega arith) (omega arith)
+    ]
 
 -- one group more: `group` was read from `xs` at `place`, and `result`, which came of it, was put there
 pub each_group : {R : Float → Float → Type 0} {xs ys zs group result : List Float} {place n : ℕ} → Each R place xs ys

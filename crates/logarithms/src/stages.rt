@@ -5,16 +5,14 @@ ghost use Rattle.logarithms.specs.Inner.Stages.{plain, Plain, Each, Split, Begun
 
 use crate::plain::{exponent, quotient};
 
-// Sets `ratios[..count]` to the quotients of `values[..count]`, which are plain. Cost: one turn for
-// each.
-pub(crate) fn quotients(values: &[f64], ratios: &mut [f64], count: usize)
-    requires { (count ≤ length values.now) × (count ≤ length ratios.old) × Plain count values.now }
-    ensures { Each Split count values.now ratios.new }
+// Sets the first of `ratios` to the quotients of `values`, which are plain and at most as many. Cost: one
+// turn for each value.
+pub(crate) fn quotients(values: &[f64], ratios: &mut [f64])
+    requires { (length values.now ≤ length ratios.old) × Plain (length values.now) values.now }
+    ensures { Each Split (length values.now) values.now ratios.new }
 {
-    let mut i = 0;
-    while i < count {
-        ratios[i] = quotient(values[i]);
-        i += 1;
+    for (i, value) in values.iter().enumerate() {
+        ratios[i] = quotient(*value);
     }
 }
 
@@ -32,9 +30,7 @@ pub(crate) fn join(values: &mut [f64], ratios: &[f64], sums: &[f64])
     requires { Ready values.old ratios.now sums.now }
     ensures { values.new ≡ map ln values.old }
 {
-    let mut i = 0;
-    while i < values.len() {
+    for i in 0..values.len() {
         values[i] = joined(values[i], ratios[i], sums[i]);
-        i += 1;
     }
 }

@@ -1,6 +1,6 @@
 -- Laws of brackets around the value of a rank: the first one, its halves, and what one says at the end. Assumes nothing.
 use Prim.Native.Nat.{ℕ, ◌+◌, ◌-◌, ◌≤◌, ◌<◌}
-use mathlib.Core.Path.{◌≡◌, ap, ◌∙◌}
+use mathlib.Core.Path.{◌≡◌}
 use mathlib.Core.List.{List}
 use native.Mathlib.Nat.{le_refl, lt_of_lt_of_le}
 use native.Mathlib.Omega.{arith}
@@ -20,17 +20,6 @@ around_first xs k m h =
       few = omega (arith, count_most (λ (y : Float). lt y (of_bits binary64 0)) xs 0 (λ i l h. none_below_zero (get_or xs i nan) (m.each i h)));
       many = h;
     }
-
--- the two parts of the bracket `b` around `pattern`
-module _ (xs : List Float) (k : ℕ) (b : Bracket) (a : Around xs k b) {pattern c : ℕ} (l : b.low < pattern) (h : pattern < b.high) {x : Float} (f : x ≡ of_bits binary64 pattern) (g : c ≡ count_below x xs) where
-  counted : c ≡ count_below (of_bits binary64 pattern) xs
-  counted = g ∙ ap (λ (z : Float). count_below z xs) f
-
-  pub upper_part : c ≤ k → Around xs k (record { low = pattern; high = b.high }) × (b.high - pattern < b.high - b.low)
-  upper_part t = (record { known = a.known; apart = h; few = rw (← counted) t; many = a.many }, omega (arith, l, h))
-
-  pub lower_part : k < c → Around xs k (record { low = b.low; high = pattern }) × (pattern - b.low < b.high - b.low)
-  lower_part t = (record { known = omega (arith, h, a.known); apart = l; few = a.few; many = rw (← counted) t }, omega (arith, l, h))
 
 -- where a bracket has one pattern, it is that of the value
 some_number : (xs : List Float) (p : ℕ) → count_below (of_bits binary64 p) xs ≤ numbers xs

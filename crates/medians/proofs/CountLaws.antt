@@ -7,13 +7,29 @@ use native.Mathlib.Nat.{not-suc-le-zero, le_of_suc-le-suc}
 use native.Mathlib.Omega.{arith}
 use borrow.Author.Tests.{not-false}
 use lib.ListN.{length, get_or, take}
-use lib.Seq.{take-suc, take-length}
+use Rattle.std.specs.Int.{from_bool}
+use lib.Seq.{take-suc}
 use native.Mathlib.Numerals.{add-one}
 use lib.Ieee.{Float, nan}
 use Rattle.medians.specs.Inner.Ranks.{count, Each}
 
 abbrev pub one : Bool → ℕ
 one b = cond b 1 0
+
+-- a `bool` as a number: 1 or 0
+pub one_of : {m : ℕ} {a b : Bool} → m ≡ from_bool a → a ≡ b → m ≡ one b
+one_of {m} {a} {b} e f = e ∙ side a ∙ ap one f
+  where
+    side : (a : Bool) → from_bool a ≡ one a
+    side true = refl
+    side false = refl
+
+pub one_most : {m : ℕ} (a : Bool) → m ≡ from_bool a → m ≤ 1
+one_most {m} a e = side a e
+  where
+    side : (a : Bool) → m ≡ from_bool a → m ≤ 1
+    side true e = omega (arith, e)
+    side false e = omega (arith, e)
 
 count_append : (p : Float → Bool) (xs ys : List Float) → count p (xs ++ ys) ≡ count p xs + count p ys
 unfolding count
@@ -24,16 +40,6 @@ count_append p (x ∷ xs) ys = rw (count_append p xs ys) (omega arith)
 pub count_more : (p : Float → Bool) (xs : List Float) (i : ℕ) → i < length xs → count p (take (suc i) xs) ≡ count p (take i xs) + one (p (get_or xs i nan))
 unfolding count
 count_more p xs i h = ap (count p) (take-suc xs i nan h) ∙ count_append p (take i xs) (get_or xs i nan ∷ []) ∙ ap (λ (n : ℕ). count p (take i xs) + n) (let z : one (p (get_or xs i nan)) + 0 ≡ one (p (get_or xs i nan)) = omega arith in z)
-
--- a loop over the values: one that passes, one that does not, and the end
-pub counted_in : (p : Float → Bool) (xs : List Float) (i n : ℕ) → n ≡ count p (take i xs) → i < length xs → p (get_or xs i nan) ≡ true → n + 1 ≡ count p (take (i + 1) xs)
-counted_in p xs i n e h t = rw add-one (rw add-one (omega (arith, e, count_more p xs i h ∙ ap (λ (b : Bool). count p (take i xs) + one b) t)))
-
-pub counted_out : (p : Float → Bool) (xs : List Float) (i n : ℕ) → n ≡ count p (take i xs) → i < length xs → p (get_or xs i nan) ≡ false → n ≡ count p (take (i + 1) xs)
-counted_out p xs i n e h t = rw add-one (omega (arith, e, count_more p xs i h ∙ ap (λ (b : Bool). count p (take i xs) + one b) t))
-
-pub counted_all : (p : Float → Bool) (xs : List Float) (i n : ℕ) → n ≡ count p (take i xs) → i ≡ length xs → n ≡ count p xs
-counted_all p xs i n e h = e ∙ ap (count p) (ap (λ (k : ℕ). take k xs) h ∙ take-length xs)
 
 -- where every value at an index of at least `m` fails, at most `m` pass
 pub count_most : (p : Float → Bool) (xs : List Float) (m : ℕ) → ((i : ℕ) → m ≤ i → i < length xs → p (get_or xs i nan) ≡ false) → count p xs ≤ m

@@ -4,7 +4,7 @@ use mathlib.Core.Path.{◌≡◌, refl, sym, ap, ◌∙◌, subst}
 use mathlib.Core.Bool.{Bool, true, false, not, ◌&&◌, cond, false≢true, true≢false}
 use mathlib.Core.Logic.{◌⊎◌, inl, inr}
 use mathlib.Core.List.{List}
-use native.Mathlib.Nat.{lt_of_lt_of_le, le_trans, le_antisymm}
+use native.Mathlib.Nat.{lt_of_lt_of_le, le_trans}
 use native.Mathlib.Numerals.{add-one}
 use native.Mathlib.Omega.{arith}
 use lib.Dec.{T}
@@ -17,16 +17,14 @@ use Rattle.floats.specs.Numbers.{+0, +∞}
 use Rattle.floats.specs.Ahead.{ahead}
 use Rattle.floats.proofs.Order.Laws.{number, le_left, lt→le, le_transitive, lt_irreflexive, lt_not_le}
 use Rattle.medians.specs.Inner.Ranks.{count, Each, magnitude, count_below, count_upto, ranked_of}
-use Rattle.medians.specs.Inner.Rounds.{Among, Nearest, Largest, Smallest}
+use Rattle.medians.specs.Inner.Rounds.{Among, Strict, Nearest, Largest, Smallest}
 use Rattle.medians.proofs.OrderLaws.{holds, lt_transitive, ahead_of_number, none_ahead_of_itself}
 use Rattle.medians.proofs.CountLaws.{one, count_more, count_most, count_weaker, count_none, count_implied, count_strict}
 use Rattle.medians.proofs.RankLaws.{by_counts, none_below_zero, pattern_magnitude}
 use Rattle.medians.proofs.RoundLaws.{never_both, above_else, number_left, number_right}
 
 -- ---- the loop, on either side
-module _ (side : Float → Bool) (nearer : Float → Float → Bool) (start : Float)
-    (further : (x y z : Float) → nearer x y ≡ true → nearer y z ≡ true → nearer x z ≡ true)
-    (apart : (x : Float) → nearer x x ≡ false) (xs : List Float) where
+module _ (side : Float → Bool) (nearer : Float → Float → Bool) (start : Float) (strict : Strict nearer) (xs : List Float) where
   pub nearest_none : Nearest side nearer start xs 0 start
   unfolding count
   nearest_none = record { none = refl; one = inl refl }
@@ -41,23 +39,25 @@ module _ (side : Float → Bool) (nearer : Float → Float → Bool) (start : Fl
 
     -- what is nearer than `s`, which is nearer than `r`, is nearer than `r`
     none_nearer : (s : Float) → nearer s r ≡ true → count (λ (y : Float). side y && nearer y s) (take i xs) ≤ 0
-    none_nearer s e = omega (arith, w.none, count_weaker (λ (y : Float). side y && nearer y s) (λ (y : Float). side y && nearer y r) (take i xs) (λ y t. let b = both (side y) (nearer y s) t in rw b.0 (further y s r b.1 e)))
+    none_nearer s e = omega (arith, w.none, count_weaker (λ (y : Float). side y && nearer y s) (λ (y : Float). side y && nearer y r) (take i xs) (λ y t. let b = both (side y) (nearer y s) t in rw b.0 (strict.further y s r b.1 e)))
 
     still_one : ((r ≡ start) ⊎ Among side xs i r) → (r ≡ start) ⊎ Among side xs (i + 1) r
     still_one (inl e) = inl e
     still_one (inr m) = inr (record { at = m.at; inside = omega (arith, m.inside); there = m.there; aside = m.aside })
 
     turn : (a b : Bool) → side v ≡ a → nearer (cond a v start) r ≡ b → Nearest side nearer start xs (i + 1) (cond b (cond a v start) r)
-    turn true true e f = record { none = none_more v (none_nearer v f) (rw e (apart v)); one = inr (record { at = i; inside = omega arith; there = refl; aside = e }) }
+    turn true true e f = record { none = none_more v (none_nearer v f) (rw e (strict.apart v)); one = inr (record { at = i; inside = omega arith; there = refl; aside = e }) }
     turn false true e f = record { none = none_more start (none_nearer start f) (rw e refl); one = inl refl }
     turn true false e f = record { none = none_more r (omega (arith, w.none)) (rw e f); one = still_one w.one }
     turn false false e f = record { none = none_more r (omega (arith, w.none)) (rw e refl); one = still_one w.one }
 
-    pub nearest_more : Nearest side nearer start xs (i + 1) (cond (nearer (cond (side v) v start) r) (cond (side v) v start) r)
-    nearest_more = turn (side v) (nearer (cond (side v) v start) r) refl refl
+    pub nearest_more : {a b : Bool} {candidate best : Float} → a ≡ side v → candidate ≡ cond a v start → b ≡ nearer candidate r → best ≡ cond b candidate r → Nearest side nearer start xs (i + 1) best
+    nearest_more {a} {b} {candidate} {best} e f g h =
+        let from : cond b (cond a v start) r ≡ best = ap (λ (z : Float). cond b z r) (sym f) ∙ sym h in
+        subst (Nearest side nearer start xs (i + 1)) from (turn a b (sym e) (sym (g ∙ ap (λ (z : Float). nearer z r) f)))
 
-pub nearest_all : {side : Float → Bool} {nearer : Float → Float → Bool} {start : Float} {xs : List Float} {i : ℕ} {r : Float} → Nearest side nearer start xs i r → i ≤ length xs → length xs ≤ i → Nearest side nearer start xs (length xs) r
-nearest_all {side} {nearer} {start} {xs} {i} {r} w l h = subst (λ (n : ℕ). Nearest side nearer start xs n r) (le_antisymm l h) w
+pub nearest_all : {side : Float → Bool} {nearer : Float → Float → Bool} {start : Float} {xs : List Float} {i : ℕ} {r : Float} → Nearest side nearer start xs i r → i ≡ length xs → Nearest side nearer start xs (length xs) r
+nearest_all {side} {nearer} {start} {xs} {i} {r} w e = subst (λ (n : ℕ). Nearest side nearer start xs n r) e w
 
 never_below_itself : (x : Float) → lt x x ≡ false
 never_below_itself x = step (lt x x) refl
@@ -66,19 +66,12 @@ never_below_itself x = step (lt x x) refl
     step true e = absurd (lt_irreflexive x (holds e))
     step false e = e
 
--- ---- the largest below `x`
-module _ (x : Float) (xs : List Float) where
-  pub largest_none : Largest x xs 0 +0
-  largest_none = nearest_none (λ (y : Float). lt y x) (λ (y z : Float). lt z y) +0 (λ a b c e f. lt_transitive c b a f e) never_below_itself xs
+-- ---- both orders
+pub strict_up : Strict (λ (y z : Float). lt y z)
+strict_up = record { further = lt_transitive; apart = never_below_itself }
 
-  pub largest_more : {i : ℕ} {r : Float} → Largest x xs i r → i < length xs → Largest x xs (i + 1) (cond (lt r (cond (lt (get_or xs i nan) x) (get_or xs i nan) +0)) (cond (lt (get_or xs i nan) x) (get_or xs i nan) +0) r)
-  largest_more = nearest_more (λ (y : Float). lt y x) (λ (y z : Float). lt z y) +0 (λ a b c e f. lt_transitive c b a f e) never_below_itself xs
-
-  pub smallest_none : Smallest x xs 0 +∞
-  smallest_none = nearest_none (λ (y : Float). lt x y) (λ (y z : Float). lt y z) +∞ lt_transitive never_below_itself xs
-
-  pub smallest_more : {i : ℕ} {r : Float} → Smallest x xs i r → i < length xs → Smallest x xs (i + 1) (cond (lt (cond (lt x (get_or xs i nan)) (get_or xs i nan) +∞) r) (cond (lt x (get_or xs i nan)) (get_or xs i nan) +∞) r)
-  smallest_more = nearest_more (λ (y : Float). lt x y) (λ (y z : Float). lt y z) +∞ lt_transitive never_below_itself xs
+pub strict_down : Strict (λ (y z : Float). lt z y)
+strict_down = record { further = λ a b c e f. lt_transitive c b a f e; apart = never_below_itself }
 
 -- ---- the rank of what is found
 module _ (x : Float) (xs : List Float) (m : Each magnitude xs) (r : Float) (k : ℕ) where

@@ -44,6 +44,9 @@ pub differences_ready : (channel ys : List Float) (n : ℕ) → ys ≡ differenc
 differences_ready channel ys n e l h = (omega (arith, ap length e ∙ differences_length channel), subst (Each magnitude) (sym e) (differences_magnitudes channel))
 
 -- ---- the median of the middle values
+pub middle_of_equal : {xs ys : List Float} {two : Middles} → xs ≡ ys → Middle xs (first_of (length xs)) (second_of (length xs)) two → Middle ys (first_of (length ys)) (second_of (length ys)) two
+middle_of_equal {xs} {ys} {two} e = subst (λ (zs : List Float). Middle zs (first_of (length zs)) (second_of (length zs)) two) e
+
 pub odd_median : (xs : List Float) (two : Middles) (n : ℕ) → Middle xs (first_of (length xs)) (second_of (length xs)) two → n ≡ length xs → n % 2 ≡ 1 → two.high ≡ median xs
 unfolding median
 odd_median xs two n t e h = t.high ∙ (rw (eq-eqb (length xs % 2) 1 (ap (λ (k : ℕ). k % 2) (sym e) ∙ h)))
@@ -102,9 +105,6 @@ no_places places readings h = rw (le-ltb 0 places h) refl
 pub too_many_places : (places readings : ℕ) → readings ≤ places → false ≡ fits_run places readings
 unfolding fits_run
 too_many_places places readings h = rw (ne_eqb (places + 1) readings (λ f. omega (arith, f, h))) (sym (and-false (ltb 0 places)))
-
-pub run_found : {channel before after : List Float} {r : Float} → fits_run (length before) (length channel) ≡ true → r ≡ median (differences channel) → after ≡ replicate (length before) +0 → Found channel before after r
-run_found e a f = record { answer = rw e a; run = rw e f }
 
 pub run_left : {channel before : List Float} {r : Float} → fits_run (length before) (length channel) ≡ false → r ≡ nan → Found channel before before r
 run_left e a = record { answer = rw e a; run = rw e refl }

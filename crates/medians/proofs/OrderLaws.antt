@@ -1,5 +1,5 @@
 -- The order of differences is a strict weak one: of two values at most one is ahead of the other, and to be level is transitive. Assumes nothing.
-use mathlib.Core.Path.{◌≡◌, refl, sym, ap, ◌∙◌, subst}
+use mathlib.Core.Path.{◌≡◌, refl, sym, ◌∙◌, subst}
 use mathlib.Core.Bool.{Bool, true, false, not, ◌||◌, cond, true≢false, false≢true}
 use lib.Dec.{T}
 use lib.Ieee.{Float, nan, inf, fin, lt, is_nan}
@@ -20,12 +20,6 @@ lt_transitive x y z e f = is_true (lt x z) (lt_then_le x y z (holds e) (lt→le 
 pub picked : (p : Float → Bool) (b : Bool) (x y : Float) → p x ≡ true → p y ≡ true → p (cond b x y) ≡ true
 picked p true x y f g = f
 picked p false x y f g = g
-
-pub lower_picked : (p : Float → Bool) (x y : Float) {r : Float} → r ≡ cond (lt x y) x y → p x ≡ true → p y ≡ true → p r ≡ true
-lower_picked p x y e f g = ap p e ∙ picked p (lt x y) x y f g
-
-pub upper_picked : (p : Float → Bool) (x y : Float) {r : Float} → r ≡ cond (lt x y) y x → p x ≡ true → p y ≡ true → p r ≡ true
-upper_picked p x y e f g = ap p e ∙ picked p (lt x y) y x g f
 
 -- ---- ahead of a number, and ahead of NaN
 number_not_nan : (x : Float) → T (number x) → is_nan x ≡ false

@@ -1,21 +1,20 @@
 -- What a round leaves: the ranks among the values below a pivot and above it, and that nothing else is looked for. Assumes nothing.
-use Prim.Native.Nat.{ℕ, ◌+◌, ◌-◌, ◌/◌, ◌≤◌, ◌<◌}
+use Prim.Native.Nat.{ℕ, ◌+◌, ◌-◌, ◌≤◌, ◌<◌}
 use mathlib.Core.Path.{◌≡◌, refl, sym, ap, ◌∙◌, subst}
 use mathlib.Core.Bool.{Bool, true, false, not, ◌&&◌, ◌||◌, false≢true, true≢false}
 use mathlib.Core.List.{List}
-use native.Mathlib.Nat.{lt_of_lt_of_le, le_trans, le_refl}
+use native.Mathlib.Nat.{lt_of_lt_of_le, le_trans}
 use native.Mathlib.Omega.{arith}
-use borrow.Author.Tests.{ltb-true, ltb-false, leb-true, lt-ltb, le-leb}
+use borrow.Author.Tests.{ltb-true, ltb-false, le-leb}
 use lib.Dec.{T, ltb, leb}
 use lib.ListN.{length, get_or, take}
 use lib.Ieee.{Float, nan, lt, le, eq, is_nan}
 use lib.Ieee.Bits.{is_true}
-use lib.Seq.{take-length}
 use Rattle.logic.proofs.Laws.{both}
 use Rattle.floats.specs.Ahead.{ahead}
 use Rattle.floats.proofs.Order.Laws.{number, le_left, le_right, lt→le, not-lt→le, le_transitive, lt_not_le}
 use Rattle.medians.specs.declared.Counts.{Counts}
-use Rattle.medians.specs.declared.Left.{Left}
+use Rattle.medians.specs.declared.Ranks.{Ranks}
 use Rattle.medians.specs.declared.Middles.{Middles}
 use Rattle.medians.specs.Inner.Ranks.{count, Each, magnitude, itself, count_below, count_upto, numbers, ranked_of, Middle}
 use Rattle.medians.specs.Inner.Rounds.{passing, Kept, Counted, Standing, Remains, across, another}
@@ -89,133 +88,84 @@ module _ (x : Float) (g : magnitude x ≡ true) (s : itself x ≡ true) where
       (le_trans (count_implied (λ (y : Float). ahead y x) (λ (y : Float). lt y x) xs (λ i l e. sym (ahead_of_number (get_or xs i nan) x pivot_number) ∙ e)) few)
       (lt_of_lt_of_le many (count_implied (λ (y : Float). le y x) (λ (y : Float). not (ahead x y)) xs (λ i l e. ap not (ahead_of_number x (get_or xs i nan) (le_left (get_or xs i nan) x (holds e)) ∙ never_both x (get_or xs i nan) e)))) m g
 
--- no more are at most the pivot than there are
-pub upto_within : {x : Float} {xs : List Float} {c : Counts} → Counted x xs c → c.upto ≤ length xs
-upto_within {x} {xs} n = rw n.upto (count_length (λ (y : Float). le y x) xs)
-
 -- ---- what is left after a round
-module _ {run : List Float} {left : Left} (w : Standing run left) where
-  abbrev xs : List Float
-  xs = take left.size run
-
-  module _ {p : Float → Bool} {after : List Float} {r : ℕ} (k : Kept p left.size run after r) where
+module _ {run : List Float} {ranks : Ranks} (w : Standing run ranks) where
+  module _ {p : Float → Bool} {after : List Float} {r : ℕ} (k : Kept p run after r) where
     short : r ≤ length after
-    short = omega (arith, k.long, k.counted, count_length p xs, front_length left.size run w.placed.room, w.placed.room)
+    short = omega (arith, k.long, k.counted, count_length p run)
 
     kept_signs : Each magnitude (take r after)
-    kept_signs = subst (Each magnitude) (sym k.front) (kept_each p magnitude xs (λ i l t. w.placed.signs.each i l))
+    kept_signs = subst (Each magnitude) (sym k.front) (kept_each p magnitude run (λ i l t. w.signs.each i l))
 
     kept_numbers : ((y : Float) → p y ≡ true → T (number y)) → Each itself (take r after)
-    kept_numbers h = subst (Each itself) (sym k.front) (kept_each p itself xs (λ i l t. number_itself (get_or xs i nan) (h (get_or xs i nan) t)))
+    kept_numbers h = subst (Each itself) (sym k.front) (kept_each p itself run (λ i l t. number_itself (get_or run i nan) (h (get_or run i nan) t)))
 
-  pub remains_below : {after : List Float} {c : Counts} {x : Float} {r : ℕ} → Counted x (take left.size run) c → left.second < c.below → Kept (λ (y : Float). lt y x) left.size run after r
-      → Remains xs left.first left.second after (record { size = r; first = left.first; second = left.second }) × Each itself (take r after)
+    -- as many as were counted
+    kept_size : length (take r after) ≡ count p run
+    kept_size = front_length r after short ∙ k.counted
+
+  pub remains_below : {after : List Float} {c : Counts} {x : Float} {r : ℕ} → Counted x run c → ranks.second < c.below → Kept (λ (y : Float). lt y x) run after r
+      → (r ≤ length after) × Remains run ranks.first ranks.second (take r after) ranks × Each itself (take r after)
   remains_below {after} {c} {x} {r} n h k = (
+    short k,
     record {
-      placed = record { room = short k; near = w.placed.near; close = w.placed.close; signs = kept_signs k };
-      low = λ l. ap (λ (ys : List Float). ranked_of ys left.first) k.front ∙ below_ranked x xs left.first (omega (arith, w.placed.near, h, n.below)) w.placed.signs;
-      high = λ l. ap (λ (ys : List Float). ranked_of ys left.second) k.front ∙ below_ranked x xs left.second (omega (arith, h, n.below)) w.placed.signs;
-      gone = λ l. absurd (beyond k.counted n.below h l);
+      signs = kept_signs k;
+      low = λ l. ap (λ (ys : List Float). ranked_of ys ranks.first) k.front ∙ below_ranked x run ranks.first (omega (arith, ranks.near.0, h, n.below)) w.signs;
+      high = λ l. ap (λ (ys : List Float). ranked_of ys ranks.second) k.front ∙ below_ranked x run ranks.second (omega (arith, h, n.below)) w.signs;
+      gone = λ l. absurd (beyond (kept_size k) n.below h l);
     },
     kept_numbers k (λ y e. number_left y x e),
   )
     where
-      beyond : {a b s : ℕ} → a ≡ count_below x xs → b ≡ count_below x xs → s < b → a ≤ s → ⊥
+      beyond : {a b s : ℕ} → a ≡ count_below x run → b ≡ count_below x run → s < b → a ≤ s → ⊥
       beyond e f g l = omega (arith, e, f, g, l)
 
-  pub remains_above : {after : List Float} {c : Counts} {x : Float} {r : ℕ} → Counted x (take left.size run) c → itself x ≡ true → c.upto ≤ left.first → Kept (λ (y : Float). lt x y) left.size run after r
-      → Remains xs left.first left.second after (record { size = r; first = left.first - c.upto; second = left.second - c.upto }) × Each itself (take r after)
-  remains_above {after} {c} {x} {r} n t h k =
+  pub remains_above : {after : List Float} {c : Counts} {x : Float} {r : ℕ} {next : Ranks} → Counted x run c → itself x ≡ true → c.upto ≤ ranks.first → Kept (λ (y : Float). lt x y) run after r
+      → next.first ≡ ranks.first - c.upto → next.second ≡ ranks.second - c.upto
+      → (r ≤ length after) × Remains run ranks.first ranks.second (take r after) next × Each itself (take r after)
+  remains_above {after} {c} {x} {r} {next} n t h k e f =
       let q = is_number x (itself_number x t) in (
+        short k,
         record {
-          placed = record { room = short k; near = omega (arith, w.placed.near, h); close = omega (arith, w.placed.close, h); signs = kept_signs k };
-          low = λ l. ap (λ (ys : List Float). ranked_of ys (left.first - c.upto)) k.front ∙ above_ranked x q xs left.first (left.first - c.upto) (omega (arith, h, n.upto)) (omega (arith, l, w.placed.near, k.counted)) w.placed.signs;
-          high = λ l. ap (λ (ys : List Float). ranked_of ys (left.second - c.upto)) k.front ∙ above_ranked x q xs left.second (left.second - c.upto) (omega (arith, h, w.placed.near, n.upto)) (omega (arith, l, k.counted)) w.placed.signs;
-          gone = λ l. sym (near_nan xs w.placed.signs left.second (omega (arith, front_length left.size run w.placed.room, w.inside)) (omega (arith, numbers_parts x q xs, n.upto, k.counted, l, h, w.placed.near)));
+          signs = kept_signs k;
+          low = λ l. ap (λ (ys : List Float). ranked_of ys next.first) k.front ∙ above_ranked x q run ranks.first next.first (omega (arith, h, n.upto, e)) (omega (arith, l, kept_size k, next.near.0)) w.signs;
+          high = λ l. ap (λ (ys : List Float). ranked_of ys next.second) k.front ∙ above_ranked x q run ranks.second next.second (omega (arith, h, ranks.near.0, n.upto, f)) (omega (arith, l, kept_size k)) w.signs;
+          gone = λ l. sym (near_nan run w.signs ranks.second w.inside (omega (arith, numbers_parts x q run, n.upto, kept_size k, l, f, h, ranks.near.0)));
         },
         kept_numbers k (λ y e. number_right x y e),
       )
 
-  -- both ranks lie within what is left
-  pub front_second : left.second < length (take left.size run)
-  front_second = rw (front_length left.size run w.placed.room) w.inside
-
-  pub front_first : left.first < length (take left.size run)
-  front_first = omega (arith, front_second, w.placed.near)
-
--- what a pivot across both ranks says of each; what is not across and not below lies above
-pub across_low : (left : Left) (c : Counts) → across left c ≡ true → left.first < c.upto
-across_low left c e = ltb-true left.first c.upto (both (ltb left.first c.upto) (leb c.below left.second) e).0
-
-pub across_high : (left : Left) (c : Counts) → across left c ≡ true → c.below ≤ left.second
-across_high left c e = leb-true c.below left.second (both (ltb left.first c.upto) (leb c.below left.second) e).1
-
-pub lies_above : (left : Left) (c : Counts) → across left c ≡ false → c.below ≤ left.second → c.upto ≤ left.first
-lies_above left c e h = ltb-false left.first c.upto (side (ltb left.first c.upto) (leb c.below left.second) e (le-leb c.below left.second h))
+pub lies_above : (ranks : Ranks) (c : Counts) → across ranks c ≡ false → c.below ≤ ranks.second → c.upto ≤ ranks.first
+lies_above ranks c e h = ltb-false ranks.first c.upto (side (ltb ranks.first c.upto) (leb c.below ranks.second) e (le-leb c.below ranks.second h))
   where
     side : (p q : Bool) → (p && q) ≡ false → q ≡ true → p ≡ false
     side false q e f = refl
     side true q e f = absurd (true≢false (sym f ∙ e))
 
 -- ---- round after round
-pub remains_all : (run : List Float) → 0 < length run → Each magnitude run → Remains run ((length run - 1) / 2) (length run / 2) run (record { size = length run; first = (length run - 1) / 2; second = length run / 2 })
-remains_all run some m =
-    record {
-      placed = record { room = le_refl (length run); near = omega arith; close = omega arith; signs = subst (Each magnitude) (sym (take-length run)) m };
-      low = λ l. ap (λ (ys : List Float). ranked_of ys ((length run - 1) / 2)) (take-length run);
-      high = λ l. ap (λ (ys : List Float). ranked_of ys (length run / 2)) (take-length run);
-      gone = λ l. absurd (never (length run) some l);
-    }
-  where
-    never : (n : ℕ) → 0 < n → n ≤ n / 2 → ⊥
-    never n s l = omega (arith, s, l)
+module _ {xs run : List Float} {first second : ℕ} {next : Ranks} (o : Remains xs first second run next) where
+  middle_on : {two : Middles} → next.second < length run → Middle run next.first next.second two → Middle xs first second two
+  middle_on l w = record { high = w.high ∙ o.high l; low = λ e. w.low e ∙ o.low l }
 
-module _ {xs run : List Float} {first second : ℕ} {left : Left} (o : Remains xs first second run left) where
-  pub still_standing : left.second < left.size → Standing run left
-  still_standing h = record { placed = o.placed; inside = h }
-
-  module _ (h : left.second < left.size) where
-    pub remains_on : {after : List Float} {next : Left} → Remains (take left.size run) left.first left.second after next → Remains xs first second after next
-    remains_on w =
-        record {
-          placed = w.placed;
-          low = λ l. w.low l ∙ o.low h;
-          high = λ l. w.high l ∙ o.high h;
-          gone = λ l. sym (o.high h) ∙ w.gone l;
-        }
-
-    pub middle_on : {two : Middles} → Middle (take left.size run) left.first left.second two → Middle xs first second two
-    middle_on w = record { high = w.high ∙ o.high h; low = λ e. w.low e ∙ o.low h }
-
-  pub middle_gone : {two : Middles} → left.size ≤ left.second → two.high ≡ nan → Middle xs first second two
+  middle_gone : {two : Middles} → length run ≤ next.second → two.high ≡ nan → Middle xs first second two
   unfolding is_nan
-  middle_gone {two} h e = record { high = e ∙ sym (o.gone h); low = λ f. absurd (true≢false (sym (ap is_nan e) ∙ f)) }
+  middle_gone {two} l e = record { high = e ∙ sym (o.gone l); low = λ f. absurd (true≢false (sym (ap is_nan e) ∙ f)) }
 
--- what is found where no further round is
-pub middle_last : {xs run : List Float} {first second : ℕ} {left : Left} {two : Middles} → Remains xs first second run left → (left.second < left.size → Middle (take left.size run) left.first left.second two) → (left.size ≤ left.second → two.high ≡ nan) → Middle xs first second two
-middle_last {xs} {run} {first} {second} {left} {two} o f g = side (ltb left.second left.size) refl
-  where
-    side : (b : Bool) → ltb left.second left.size ≡ b → Middle xs first second two
-    side true e = let h = ltb-true left.second left.size e in middle_on o h (f h)
-    side false e = let h = ltb-false left.second left.size e in middle_gone o h (g h)
+  -- what is found in what a round leaves is what was looked for
+  pub middle_after : {two : Middles} → (next.second < length run → Middle run next.first next.second two) → (length run ≤ next.second → two.high ≡ nan) → Middle xs first second two
+  middle_after {two} f g = side (ltb next.second (length run)) refl
+    where
+      side : (b : Bool) → ltb next.second (length run) ≡ b → Middle xs first second two
+      side true e = let l = ltb-true next.second (length run) e in middle_on l (f l)
+      side false e = let l = ltb-false next.second (length run) e in middle_gone l (g l)
 
 -- ---- whether there is another round
-module _ (left : Left) (rounds : ℕ) where
+module _ (size : ℕ) (ranks : Ranks) (rounds : ℕ) where
   abbrev bounded : Bool
-  bounded = ltb left.second left.size && ltb rounds 16
+  bounded = ltb ranks.second size && ltb rounds 16
 
-  more : another left rounds ≡ true → bounded ≡ true
-  more e = (both bounded (ltb rounds 1 || ltb 8 left.size) e).0
+  more : another size ranks rounds ≡ true → bounded ≡ true
+  more e = (both bounded (ltb rounds 1 || ltb 8 size) e).0
 
-  pub more_inside : another left rounds ≡ true → left.second < left.size
-  more_inside e = ltb-true left.second left.size (both (ltb left.second left.size) (ltb rounds 16) (more e)).0
-
-  pub more_rounds : another left rounds ≡ true → rounds < 16
-  more_rounds e = ltb-true rounds 16 (both (ltb left.second left.size) (ltb rounds 16) (more e)).1
-
-  pub some_round : another left rounds ≡ false → left.second < left.size → 0 < rounds
-  some_round e h = side (ltb rounds 1) refl
-    where
-      side : (b : Bool) → ltb rounds 1 ≡ b → 0 < rounds
-      side false f = ltb-false rounds 1 f
-      side true f = absurd (false≢true (sym e ∙ (rw (lt-ltb left.second left.size h, lt-ltb rounds 16 (omega (arith, ltb-true rounds 1 f)), f) refl)))
+  pub more_inside : another size ranks rounds ≡ true → ranks.second < size
+  more_inside e = ltb-true ranks.second size (both (ltb ranks.second size) (ltb rounds 16) (more e)).0

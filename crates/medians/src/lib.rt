@@ -13,12 +13,15 @@
 
 mod ends;
 mod few;
+mod magnitudes;
 mod middle;
 mod narrow;
 mod partition;
 mod pivot;
 mod rank;
 mod rounds;
+
+ghost use Rattle.std.specs.Prelude.{◌+◌, ◌≤◌};
 
 pub use middle::median_difference;
 
@@ -30,13 +33,19 @@ struct Middles {
     high: f64,
 }
 
-// What is left of some values: the first `size` floats of their run, and the ranks `first` and `second`
-// among those of the two values that are looked for.
+// The ranks of the two values that are looked for, which stand side by side or are one and the same.
+#[derive(Clone, Copy)]
+struct Ranks {
+    first: usize,
+    second: usize,
+    ghost near: { (first ≤ second) × (second ≤ first + 1) },
+}
+
+// What a round leaves: the values at the front of the run, `size` of them, and the ranks among those.
 #[derive(Clone, Copy)]
 struct Left {
     size: usize,
-    first: usize,
-    second: usize,
+    ranks: Ranks,
 }
 
 // How many values are below a pivot, `below`, and how many are not above it, `upto`.

@@ -6,7 +6,6 @@ ghost use Rattle.medians.specs.Median.{differences, median, fits_run, Found};
 
 use crate::pivot::upper;
 use crate::rounds::middles;
-use areas::clear_floats;
 
 // The magnitude of the difference `x - y`: the difference or its opposite, of equal ones the second,
 // which is never -0.
@@ -22,10 +21,8 @@ fn difference(channel: &[f64], run: &mut [f64])
     requires { length run.old + 1 ≡ length channel.now }
     ensures { run.new ≡ differences channel.now }
 {
-    let mut i = 0;
-    while i < run.len() {
+    for i in 0..run.len() {
         run[i] = apart(channel[i + 1], channel[i]);
-        i += 1;
     }
 }
 
@@ -36,9 +33,8 @@ fn worked_out(channel: &[f64], run: &mut [f64]) -> f64
 {
     difference(channel, run);
     let two = middles(run);
-    let size = run.len();
-    clear_floats(run, 0, size);
-    if size % 2 == 1 {
+    run.fill(0.0);
+    if run.len() % 2 == 1 {
         return two.high;
     }
     0.5 * (two.low + two.high)
@@ -67,5 +63,5 @@ pub fn median_difference(channel: &[f64], run: &mut [f64]) -> f64
     if fits(run.len(), channel.len()) {
         return worked_out(channel, run);
     }
-    0.0 / 0.0
+    f64::NAN
 }

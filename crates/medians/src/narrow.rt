@@ -1,25 +1,10 @@
 // Brackets of bit patterns around the value of a rank in a list, whose values are only counted and never
 // put in order.
-ghost use Rattle.std.specs.Prelude.{◌≡◌, ◌-◌, ◌≤◌, ◌<◌};
-ghost use Rattle.medians.specs.Inner.Ranks.{count_below, Around};
+ghost use Rattle.std.specs.Prelude.{◌-◌, ◌≤◌, ◌<◌};
+ghost use Rattle.medians.specs.Inner.Ranks.{Around};
 
 use crate::Bracket;
-
-// How many values of `run` are below `x`. Cost: one turn for each value.
-pub(crate) fn count_below(run: &[f64], x: f64) -> usize
-    ensures { result ≡ count_below x run.now }
-{
-    let mut count = 0;
-    let mut i = 0;
-    while i < run.len() {
-        let value = run[i];
-        i += 1;
-        if value < x {
-            count += 1;
-        }
-    }
-    count
-}
+use crate::partition::count_below;
 
 // The part of the bracket `b` below `pattern`, or the part that begins with it: the one in which the
 // value of the rank `place` in `run` lies. Cost: one pass over `run`.

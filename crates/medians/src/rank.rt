@@ -1,56 +1,47 @@
 // The value of a rank in a list, found by its bit pattern without putting the list in order.
 ghost use Rattle.std.specs.Prelude.{◌≡◌, ◌<◌, length};
-ghost use Rattle.medians.specs.Inner.Ranks.{Each, magnitude, numbers, ranked_of, Middle};
+ghost use Rattle.medians.specs.Inner.Ranks.{numbers, ranked_of, Middle};
 
-use crate::narrow::{count_below, narrowed};
-use crate::{Bracket, Middles};
+use crate::magnitudes::Magnitudes;
+use crate::narrow::narrowed;
+use crate::partition::{count_below, count_of};
+use crate::{Bracket, Middles, Ranks};
 
-// How many values of `run` are not NaN. Cost: one turn for each value.
+// How many values of `run` are not NaN.
 fn count_numbers(run: &[f64]) -> usize
     ensures { result ≡ numbers run.now }
 {
-    let mut count = 0;
-    let mut i = 0;
-    while i < run.len() {
-        let value = run[i];
-        i += 1;
-        if value == value {
-            count += 1;
-        }
-    }
-    count
+    count_of(run, |value| value == value)
 }
 
 // The value of the rank `place` in `run`, of whose values none has a sign. Cost: at most 65 passes over
 // `run`, whatever its order.
-pub(crate) fn ranked(run: &[f64], place: usize) -> f64
-    requires { (place < length run.now) × Each magnitude run.now }
-    ensures { result ≡ ranked_of run.now place }
+pub(crate) fn ranked(run: Magnitudes, place: usize) -> f64
+    requires { place < length run.values.now }
+    ensures { result ≡ ranked_of run.entry.values.now place }
 {
-    let infinity = f64::from_bits(0x7ff0_0000_0000_0000);
-    if count_below(run, infinity) <= place {
-        if count_numbers(run) <= place {
-            return 0.0 / 0.0;
+    if count_below(run.values, f64::INFINITY) <= place {
+        if count_numbers(run.values) <= place {
+            return f64::NAN;
         }
-        return infinity;
+        return f64::INFINITY;
     }
     let all = Bracket {
         low: 0,
         high: 0x7ff0_0000_0000_0000,
     };
-    floats::from_bits(narrowed(run, place, all).low)
+    floats::from_bits(narrowed(run.values, place, all).low)
 }
 
-// The values of the ranks `first` and `second` in `run`, each found by itself. Cost: that of finding one
-// value by its rank, or two.
-pub(crate) fn one_by_one(run: &[f64], first: usize, second: usize) -> Middles
-    requires { (first < length run.now) × (second < length run.now) × Each magnitude run.now }
-    ensures { Middle run.now first second result }
+// The values of `ranks` in `run`, each found by itself. Cost: that of finding one value by its rank, or two.
+pub(crate) fn one_by_one(run: Magnitudes, ranks: Ranks) -> Middles
+    requires { ranks.second < length run.values.now }
+    ensures { Middle run.entry.values.now ranks.first ranks.second result }
 {
-    let low = ranked(run, first);
-    if first == second {
-        return Middles { low, high: low };
+    let high = ranked(run, ranks.second);
+    if ranks.first == ranks.second {
+        return Middles { low: high, high };
     }
-    let high = ranked(run, second);
+    let low = ranked(run, ranks.first);
     Middles { low, high }
 }

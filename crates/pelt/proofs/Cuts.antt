@@ -6,7 +6,8 @@ use mathlib.Core.List.{List, [], ◌∷◌}
 use lib.ListN.{length}
 use lib.Ieee.{Float}
 use Rattle.readings.specs.Shape.{first_length}
-use Rattle.refusals.specs.declared.Answer.{Answer}
+use Rattle.std.specs.Prelude.{Result, Ok, Err}
+use Rattle.refusals.specs.declared.Refusal.{Refusal}
 use Rattle.search_answer.specs.Outcome.{Areas}
 use Rattle.search_answer.proofs.CutLaws.{detected_cuts}
 use Rattle.search_answer.proofs.FrontLaws.{detected_count}
@@ -15,7 +16,7 @@ use Rattle.pelt.specs.Detected.{detected}
 use Rattle.pelt.specs.Promise.{CutsInFront}
 
 module _ (p : Pelt) (readings : List Float) (before after : Areas) (count : ℕ) where
-  front : (strict : Bool) (lengths : List ℕ) → ◌≡◌ {A = Answer × Areas} (Answer.Count count, after) (detected strict p readings lengths before) → CutsInFront p (first_length lengths) count after.cuts
+  front : (strict : Bool) (lengths : List ℕ) → ◌≡◌ {A = Result ℕ Refusal × Areas} (Ok count, after) (detected strict p readings lengths before) → CutsInFront p (first_length lengths) count after.cuts
   front strict lengths d =
       record {
         many = detected_count strict p.cost p.penalty p.min_segment_len readings lengths before after count d;
@@ -23,15 +24,15 @@ module _ (p : Pelt) (readings : List Float) (before after : Areas) (count : ℕ)
       }
 
   -- `detect` and `detect_strict`, of one channel
-  pub detect_cuts : ◌≡◌ {A = Answer × Areas} (Answer.Count count, after) (detected false p readings (length readings ∷ []) before) → CutsInFront p (length readings) count after.cuts
+  pub detect_cuts : ◌≡◌ {A = Result ℕ Refusal × Areas} (Ok count, after) (detected false p readings (length readings ∷ []) before) → CutsInFront p (length readings) count after.cuts
   detect_cuts d = front false (length readings ∷ []) d
 
-  pub detect_strict_cuts : ◌≡◌ {A = Answer × Areas} (Answer.Count count, after) (detected true p readings (length readings ∷ []) before) → CutsInFront p (length readings) count after.cuts
+  pub detect_strict_cuts : ◌≡◌ {A = Result ℕ Refusal × Areas} (Ok count, after) (detected true p readings (length readings ∷ []) before) → CutsInFront p (length readings) count after.cuts
   detect_strict_cuts d = front true (length readings ∷ []) d
 
   -- `detect_multi` and `detect_multi_strict`, of channels with these lengths, which are all the first one's
-  pub detect_multi_cuts : (lengths : List ℕ) → ◌≡◌ {A = Answer × Areas} (Answer.Count count, after) (detected false p readings lengths before) → CutsInFront p (first_length lengths) count after.cuts
+  pub detect_multi_cuts : (lengths : List ℕ) → ◌≡◌ {A = Result ℕ Refusal × Areas} (Ok count, after) (detected false p readings lengths before) → CutsInFront p (first_length lengths) count after.cuts
   detect_multi_cuts lengths d = front false lengths d
 
-  pub detect_multi_strict_cuts : (lengths : List ℕ) → ◌≡◌ {A = Answer × Areas} (Answer.Count count, after) (detected true p readings lengths before) → CutsInFront p (first_length lengths) count after.cuts
+  pub detect_multi_strict_cuts : (lengths : List ℕ) → ◌≡◌ {A = Result ℕ Refusal × Areas} (Ok count, after) (detected true p readings lengths before) → CutsInFront p (first_length lengths) count after.cuts
   detect_multi_strict_cuts lengths d = front true lengths d

@@ -7,12 +7,12 @@ use native.Mathlib.Omega.{arith}
 use lib.ListN.{length, get_or}
 use lib.Ieee.{Float, nan}
 use Rattle.floats.specs.Finite.{finite}
-use Rattle.refusals.specs.declared.Refusal.TheVariants as Refusal
 use Rattle.readings.specs.Shape.{first_length}
 use Rattle.readings.specs.FirstGap.{reading_of, FirstGap}
 use Rattle.readings.proofs.FirstGapLaws.{reading_at_lem}
 use Rattle.search_answer.proofs.AdmissionLaws.{Shapely}
-use Rattle.refusals.specs.declared.Answer.{Answer}
+use Rattle.std.specs.Prelude.{Result, Ok, Err}
+use Rattle.refusals.specs.declared.Refusal.{Refusal}
 use Rattle.search_answer.specs.Outcome.{Areas}
 use Rattle.search_answer.proofs.FrontLaws.{detected_gap}
 use Rattle.pelt.specs.declared.Pelt.{Pelt}
@@ -21,15 +21,15 @@ use Rattle.pelt.specs.Promise.{FirstGapOfOne}
 
 module _ (p : Pelt) (readings : List Float) (before after : Areas) (k i : ℕ) where
   -- `detect_multi_strict`
-  pub detect_multi_strict_gap : (lengths : List ℕ) → ◌≡◌ {A = Answer × Areas} (Answer.Refused (Refusal.NonFinite k i), after) (detected true p readings lengths before) → FirstGap readings (length lengths) (first_length lengths) k i
+  pub detect_multi_strict_gap : (lengths : List ℕ) → ◌≡◌ {A = Result ℕ Refusal × Areas} (Err (Refusal.NonFinite k i), after) (detected true p readings lengths before) → FirstGap readings (length lengths) (first_length lengths) k i
   detect_multi_strict_gap lengths d = (detected_gap true p.cost p.penalty p.min_segment_len readings lengths before after k i d).first
 
   -- `detect_multi`
-  pub detect_multi_no_gap : (lengths : List ℕ) → ◌≡◌ {A = Answer × Areas} (Answer.Refused (Refusal.NonFinite k i), after) (detected false p readings lengths before) → ⊥
+  pub detect_multi_no_gap : (lengths : List ℕ) → ◌≡◌ {A = Result ℕ Refusal × Areas} (Err (Refusal.NonFinite k i), after) (detected false p readings lengths before) → ⊥
   detect_multi_no_gap lengths d = false≢true (detected_gap false p.cost p.penalty p.min_segment_len readings lengths before after k i d).is_strict
 
   -- `detect_strict`
-  pub detect_strict_gap : ◌≡◌ {A = Answer × Areas} (Answer.Refused (Refusal.NonFinite k i), after) (detected true p readings (length readings ∷ []) before) → FirstGapOfOne readings k i
+  pub detect_strict_gap : ◌≡◌ {A = Result ℕ Refusal × Areas} (Err (Refusal.NonFinite k i), after) (detected true p readings (length readings ∷ []) before) → FirstGapOfOne readings k i
   detect_strict_gap d =
       let n = length readings in
       let gap = detected_gap true p.cost p.penalty p.min_segment_len readings (n ∷ []) before after k i d in
@@ -46,5 +46,5 @@ module _ (p : Pelt) (readings : List Float) (before after : Areas) (k i : ℕ) w
       one_channel s j h = reading_at_lem readings 1 (length readings) s.few s.short s.fill 0 j (omega arith) h ∙ ap (λ (at : ℕ). get_or readings at nan) (omega arith)
 
   -- `detect`
-  pub detect_no_gap : ◌≡◌ {A = Answer × Areas} (Answer.Refused (Refusal.NonFinite k i), after) (detected false p readings (length readings ∷ []) before) → ⊥
+  pub detect_no_gap : ◌≡◌ {A = Result ℕ Refusal × Areas} (Err (Refusal.NonFinite k i), after) (detected false p readings (length readings ∷ []) before) → ⊥
   detect_no_gap d = detect_multi_no_gap (length readings ∷ []) d

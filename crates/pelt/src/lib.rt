@@ -12,7 +12,7 @@ ghost use Rattle.search_answer.specs.Outcome.{areas};
 ghost use Rattle.pelt.specs.Detected.{new_of, with_min_segment_len, detected};
 
 use costs::{CostFunction, Penalty};
-use refusals::Answer;
+use refusals::Refusal;
 use search::find_cuts;
 
 // A search: how a segment is priced, the penalty of a change, and the least length of a piece. The
@@ -57,15 +57,44 @@ impl Pelt {
     }
 
     // Whether a search with these settings over `channels` channels takes the functional search, which
-    // asks for a pool of slots; any other search may be lent an empty one.
+    // asks for a pool of slots; any other search may be lent an empty one. Crate `search` has the same
+    // test for itself: here it ties the constant that a caller sees to the definition (docs/DECISIONS.md).
+    #[tactic(auto, unfolding(search_answer::specs::Search::takes_functional))]
     pub fn takes_functional(self, channels: usize) -> bool
         ensures { result ≡ takes_functional self.cost channels }
     {
-        let cost = self.cost;
-        match cost {
+        match self.cost {
             CostFunction::L2 => channels <= Pelt::FUNCTIONAL_MAX_CHANNELS,
             CostFunction::Normal => false,
         }
+    }
+
+    // The one search behind the four calls; where it is `strict`, a reading that is not finite is
+    // refused.
+    fn find(
+        self,
+        strict: bool,
+        readings: &[f64],
+        lengths: &[usize],
+        cuts: &mut [usize],
+        floats: &mut [f64],
+        indices: &mut [usize],
+        pool: &mut [f64],
+    ) -> Result<usize, Refusal>
+        ensures { (result, areas cuts.new floats.new indices.new pool.new) ≡ detected strict self readings.now lengths.now (areas cuts.old floats.old indices.old pool.old) }
+    {
+        find_cuts(
+            self.cost,
+            self.penalty,
+            self.min_segment_len,
+            strict,
+            readings,
+            lengths,
+            cuts,
+            floats,
+            indices,
+            pool,
+        )
     }
 
     // The cuts of the one channel `readings`, of n readings: lowest first, in the front of `cuts`; the
@@ -80,11 +109,11 @@ impl Pelt {
         floats: &mut [f64],
         indices: &mut [usize],
         pool: &mut [f64],
-    ) -> Answer
+    ) -> Result<usize, Refusal>
         ensures { (result, areas cuts.new floats.new indices.new pool.new) ≡ detected false self readings.now (length readings.now ∷ []) (areas cuts.old floats.old indices.old pool.old) }
     {
         let one = [readings.len()];
-        self.detect_multi(readings, &one, cuts, floats, indices, pool)
+        self.find(false, readings, &one, cuts, floats, indices, pool)
     }
 
     // The same of one channel or more, which stand one after the other in `readings` and have the
@@ -98,16 +127,10 @@ impl Pelt {
         floats: &mut [f64],
         indices: &mut [usize],
         pool: &mut [f64],
-    ) -> Answer
+    ) -> Result<usize, Refusal>
         ensures { (result, areas cuts.new floats.new indices.new pool.new) ≡ detected false self readings.now lengths.now (areas cuts.old floats.old indices.old pool.old) }
     {
-        let cost = self.cost;
-        let penalty = self.penalty;
-        let m = self.min_segment_len;
-        let strict = false;
-        find_cuts(
-            cost, penalty, m, strict, readings, lengths, cuts, floats, indices, pool,
-        )
+        self.find(false, readings, lengths, cuts, floats, indices, pool)
     }
 
     // `detect`, but a reading that is not finite is refused, with channel 0 and its index.
@@ -118,11 +141,11 @@ impl Pelt {
         floats: &mut [f64],
         indices: &mut [usize],
         pool: &mut [f64],
-    ) -> Answer
+    ) -> Result<usize, Refusal>
         ensures { (result, areas cuts.new floats.new indices.new pool.new) ≡ detected true self readings.now (length readings.now ∷ []) (areas cuts.old floats.old indices.old pool.old) }
     {
         let lengths = [readings.len()];
-        self.detect_multi_strict(readings, &lengths, cuts, floats, indices, pool)
+        self.find(true, readings, &lengths, cuts, floats, indices, pool)
     }
 
     // `detect_multi`, but a reading that is not finite is refused, with its channel and index.
@@ -134,15 +157,9 @@ impl Pelt {
         floats: &mut [f64],
         indices: &mut [usize],
         pool: &mut [f64],
-    ) -> Answer
+    ) -> Result<usize, Refusal>
         ensures { (result, areas cuts.new floats.new indices.new pool.new) ≡ detected true self readings.now lengths.now (areas cuts.old floats.old indices.old pool.old) }
     {
-        let cost = self.cost;
-        let penalty = self.penalty;
-        let m = self.min_segment_len;
-        let strict = true;
-        find_cuts(
-            cost, penalty, m, strict, readings, lengths, cuts, floats, indices, pool,
-        )
+        self.find(true, readings, lengths, cuts, floats, indices, pool)
     }
 }

@@ -1,4 +1,5 @@
 -- A gap anywhere in a channel shows in every summary of it: the mean is NaN, and so is the spread, where there is one. Assumes nothing.
+use Rattle.std.specs.Prelude.{Some, Ok}
 use Rattle.std.proofs.Common.{◌≡◌, ℕ, zero, suc, ◌-◌, ◌<◌, Bool, true, false, not, T, ◌⊎◌, List, length, get_or, ap, ◌∙◌, subst, inl, inr, eq-or-lt_of_le, arith}
 use lib.Ieee.{Float, nan, binary64, neg, sub}
 use Rattle.floats.specs.Numbers.{◌+ᶠ◌, ◌*ᶠ◌, ◌/ᶠ◌, of_whole}
@@ -10,8 +11,6 @@ use Rattle.sums.specs.Sums.{sum_to, mean_of, centred, centred_to, squares_to}
 use Rattle.costs.specs.Costs.{segment_about, segment_of, l2_cost}
 use Rattle.costs.specs.declared.Segment.{Segment}
 use Rattle.piece.specs.declared.PieceSummary.{PieceSummary}
-use Rattle.piece.specs.declared.Spread.TheVariants as Spread
-use Rattle.piece.specs.declared.Summarised.TheVariants as Summarised
 use Rattle.piece.specs.Piece.{summary_of, summarised_as}
 use Rattle.piece.proofs.PieceLaws.{found}
 use Rattle.piece.proofs.SpreadLaws.{nan_summary}
@@ -69,7 +68,7 @@ module _ (xs : List Float) (mean : Float) (s : Bool) (h : T (endless s mean)) (a
       against false h k = endless_against binary64 true _ mean k h
 
 -- ---- what `summary` answered of a channel whose reading `i` is a gap
-module _ (xs : List Float) (a b : ℕ) (s : PieceSummary) (answer : Summarised.Piece s ≡ summarised_as xs a b) (i : ℕ) (within : i < length xs) (gap : finite (get_or xs i nan) ≡ false) where
+module _ (xs : List Float) (a b : ℕ) (s : PieceSummary) (answer : Ok s ≡ summarised_as xs a b) (i : ℕ) (within : i < length xs) (gap : finite (get_or xs i nan) ≡ false) where
   both : (b : ℕ) → a < b → (l2_cost (segment_of xs a b) ≡ nan) × ((summary_of xs a b).mean ≡ nan)
   unfolding segment_of summary_of segment
   both zero h = absurd (omega (arith, h))
@@ -79,5 +78,5 @@ module _ (xs : List Float) (a b : ℕ) (s : PieceSummary) (answer : Summarised.P
   pub gap_mean : s.mean ≡ nan
   gap_mean = let f = found xs a b s answer in ap (λ (p : PieceSummary). p.mean) f.summed ∙ (both b f.start_first).1
 
-  pub gap_spread : (x : Float) → s.spread ≡ Spread.Of x → x ≡ nan
+  pub gap_spread : (x : Float) → s.spread ≡ Some x → x ≡ nan
   gap_spread x is = nan_summary xs a b s answer x is (both b (found xs a b s answer).start_first).0

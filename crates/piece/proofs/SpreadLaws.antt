@@ -1,4 +1,5 @@
 -- The spread that `summary` answers: there is one exactly of two or more readings; it is at or above 0, and not -0, or NaN; it is NaN exactly where the L2 cost is, and +∞ where that is. Its divisor is the whole number itself. Assumes nothing.
+use Rattle.std.specs.Prelude.{Some, None, Ok}
 use Rattle.std.proofs.Common.{◌≡◌, ℕ, zero, suc, ◌-◌, ◌<◌, ◌≤◌, Bool, true, false, cond, T, ◌⊎◌, List, sym, refl, ap, ◌∙◌, subst, inl, inr, true≢false, eq-or-lt_of_le, arith}
 use lib.Ieee.{Float, nan, inf, fin, binary64, of_int, lt, div}
 use lib.Ieee.Back.{round_whole}
@@ -18,8 +19,6 @@ use Rattle.sums.specs.Sums.{mean_of}
 use Rattle.costs.specs.Costs.{segment_about, segment_of, l2_cost}
 use Rattle.costs.proofs.StartLaws.{l2_from_either_zero}
 use Rattle.piece.specs.declared.PieceSummary.{PieceSummary}
-use Rattle.piece.specs.declared.Spread.{Spread}
-use Rattle.piece.specs.declared.Summarised.TheVariants as Summarised
 use Rattle.piece.specs.Spread.{not_below_zero, spread_of}
 use Rattle.piece.specs.Piece.{summary_of, summarised_as}
 use Rattle.piece.proofs.PieceLaws.{spread_of_few, spread_of_more, Found, found}
@@ -71,7 +70,7 @@ unfolding not_below_zero lt
 infinity_stays y h = div_inf binary64 false y h
 
 -- ---- what `summary` answered
-module _ (xs : List Float) (a b : ℕ) (s : PieceSummary) (answer : Summarised.Piece s ≡ summarised_as xs a b) where
+module _ (xs : List Float) (a b : ℕ) (s : PieceSummary) (answer : Ok s ≡ summarised_as xs a b) where
   abbrev cost : Float
   cost = l2_cost (segment_of xs a b)
 
@@ -87,21 +86,21 @@ module _ (xs : List Float) (a b : ℕ) (s : PieceSummary) (answer : Summarised.P
   spread_is = ap (λ (p : PieceSummary). p.spread) piece.summed
 
   -- one reading has none, and any more have one
-  pub summary_one : s.length ≡ 1 → s.spread ≡ Spread.Absent
+  pub summary_one : s.length ≡ 1 → s.spread ≡ None
   summary_one e = spread_is ∙ spread_of_few (b - a) cost (omega (arith, e, size_is))
 
-  pub summary_more : 2 ≤ s.length → s.spread ≡ Spread.Of (not_below_zero cost /ᶠ of_whole (s.length - 1))
+  pub summary_more : 2 ≤ s.length → s.spread ≡ Some (not_below_zero cost /ᶠ of_whole (s.length - 1))
   summary_more h = spread_is ∙ ap (λ (n : ℕ). spread_of n cost) (sym size_is) ∙ spread_of_more s.length cost h
 
   sized : (1 ≡ s.length) ⊎ (1 < s.length)
   sized = eq-or-lt_of_le (omega (arith, size_is, piece.start_first))
 
   -- where there is none, there is one reading
-  pub summary_absent : s.spread ≡ Spread.Absent → s.length ≡ 1
+  pub summary_absent : s.spread ≡ None → s.length ≡ 1
   summary_absent e = elim sized [ inl one ↦ sym one | inr h ↦ let more = summary_more h in absurd (clash cc) ]
 
   -- ---- of a spread `x`
-  module _ (x : Float) (is : s.spread ≡ Spread.Of x) where
+  module _ (x : Float) (is : s.spread ≡ Some x) where
     pub spread_more : 2 ≤ s.length
     spread_more = elim sized [ inl one ↦ let none = summary_one (sym one) in absurd (clash cc) | inr h ↦ h ]
 

@@ -20,30 +20,18 @@ use segment_of::segment_of;
 use spread_of::spread_of;
 use sums::mean;
 
-// How far the readings of a piece spread: `Of` their variance, the L2 cost divided by the length less
-// one. It is `Absent` of a single reading, which has none.
-#[derive(Clone, Copy)]
-pub enum Spread {
-    Absent,
-    Of(f64),
-}
-
-// A piece: `length` readings, their `mean`, and their `spread`.
+// A piece: `length` readings, their `mean`, and how far they spread: their variance, the L2 cost divided
+// by the length less one. A single reading has no `spread`.
 #[derive(Clone, Copy)]
 pub struct PieceSummary {
     pub length: usize,
     pub mean: f64,
-    pub spread: Spread,
+    pub spread: Option<f64>,
 }
 
-// The answer of `summary`.
-#[derive(Clone, Copy)]
-pub enum Summarised {
-    Piece(PieceSummary),
-    Refused(Refusal),
-}
-
-// The summary of `channel[start..end]`, by the sums of that segment about the mean of `channel`.
+// The summary of `channel[start..end]`, by the sums of that segment about the mean of `channel`: so it
+// takes the whole channel, and no slice of it.
+#[tactic(auto, using(crate::proofs::PieceLaws::summary_from))]
 fn summarise(channel: &[f64], start: usize, end: usize) -> PieceSummary
     requires { (start < end) × (end ≤ length channel.now) }
     ensures { result ≡ summary_of channel.now start end }
@@ -60,16 +48,15 @@ fn summarise(channel: &[f64], start: usize, end: usize) -> PieceSummary
 
 // The summary of the piece `channel[start..end]`, or a refusal: 6 for more readings than the limit, 12
 // for no such piece. Cost: one pass over `channel` for its mean, and one up to `end`.
-pub fn summary(channel: &[f64], start: usize, end: usize) -> Summarised
+#[tactic(auto, unfolding(crate::specs::Piece::summarised_as, crate::specs::Piece::piece_tests, refusals::specs::Tried::tried))]
+pub fn summary(channel: &[f64], start: usize, end: usize) -> Result<PieceSummary, Refusal>
     ensures { result ≡ summarised_as channel.now start end }
 {
     if MAX_READINGS < channel.len() {
-        return Summarised::Refused(Refusal::TooLong);
+        return Err(Refusal::TooLong);
     }
-    if start < end {
-        if end <= channel.len() {
-            return Summarised::Piece(summarise(channel, start, end));
-        }
+    if end <= start || channel.len() < end {
+        return Err(Refusal::Piece);
     }
-    Summarised::Refused(Refusal::Piece)
+    Ok(summarise(channel, start, end))
 }

@@ -1,8 +1,9 @@
 // The sums of a piece about the channel's mean, in one pass: the running sums at its end less those at
 // its start.
 ghost use Rattle.std.specs.Prelude.{◌≡◌, ◌≤◌, length};
+ghost use Rattle.std.specs.List.{fold};
 ghost use Rattle.costs.specs.Costs.{segment_about};
-ghost use Rattle.piece.specs.Inner.Running.{running_at};
+ghost use Rattle.piece.specs.Inner.Running.{with_reading};
 
 use costs::Segment;
 use std::num::nearest_u64_to_f64;
@@ -14,20 +15,16 @@ struct Running {
     sum_of_squares: f64,
 }
 
-// Takes the sums `before`, of the first `from` readings of `channel` less `mean`, on to those of the
-// first `to`. Cost: one turn for each reading between them.
-fn advance(channel: &[f64], mean: f64, before: Running, from: usize, to: usize) -> Running
-    requires { (from ≤ to) × (to ≤ length channel.now) × (before ≡ running_at channel.now mean from) }
-    ensures { result ≡ running_at channel.now mean to }
+// Takes `readings`, each less `mean`, into the sums `before`. Cost: one turn for each reading.
+fn advance(before: Running, readings: &[f64], mean: f64) -> Running
+    ensures { result ≡ fold (with_reading mean) before readings.now }
 {
     let mut sum = before.sum;
     let mut sum_of_squares = before.sum_of_squares;
-    let mut i = from;
-    while i < to {
-        let y = channel[i] - mean;
-        sum = sum + y;
-        sum_of_squares = sum_of_squares + y * y;
-        i += 1;
+    for reading in readings {
+        let y = *reading - mean;
+        sum += y;
+        sum_of_squares += y * y;
     }
     Running {
         sum,
@@ -36,7 +33,8 @@ fn advance(channel: &[f64], mean: f64, before: Running, from: usize, to: usize) 
 }
 
 // The segment of `channel[start..end]`: how many readings it has, and the sums of the readings less
-// `mean` and of their squares. Cost: one turn for each reading up to `end`.
+// `mean` and of their squares. It takes the channel with both ends, and no slice, since the sums that rule
+// 3.5 names begin at the channel's first reading. Cost: one turn for each reading up to `end`.
 pub(crate) fn segment_of(channel: &[f64], mean: f64, start: usize, end: usize) -> Segment
     requires { (start ≤ end) × (end ≤ length channel.now) }
     ensures { result ≡ segment_about channel.now mean start end }
@@ -45,8 +43,8 @@ pub(crate) fn segment_of(channel: &[f64], mean: f64, start: usize, end: usize) -
         sum: 0.0,
         sum_of_squares: 0.0,
     };
-    let before = advance(channel, mean, none, 0, start);
-    let after = advance(channel, mean, before, start, end);
+    let before = advance(none, &channel[..start], mean);
+    let after = advance(before, &channel[start..end], mean);
     Segment {
         length: nearest_u64_to_f64((end - start) as u64),
         sum: after.sum - before.sum,

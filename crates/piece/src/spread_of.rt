@@ -2,11 +2,11 @@
 ghost use Rattle.std.specs.Prelude.{◌≡◌};
 ghost use Rattle.piece.specs.Spread.{not_below_zero, spread_of};
 
-use crate::Spread;
 use std::num::nearest_u64_to_f64;
 
 // `cost`, or +0 where it is below 0: rounding can bring that of nearly equal readings there. A NaN is
 // not below 0, and stays.
+#[tactic(auto, unfolding(crate::specs::Spread::not_below_zero))]
 fn not_below_zero(cost: f64) -> f64
     ensures { result ≡ not_below_zero cost }
 {
@@ -18,12 +18,13 @@ fn not_below_zero(cost: f64) -> f64
 
 // The spread of `count` readings whose L2 cost is `cost`: the cost, or +0 where it is below 0, divided by
 // `count` less one. A single reading has none, since that leaves nothing to divide by.
-pub(crate) fn spread_of(count: usize, cost: f64) -> Spread
+#[tactic(auto, using(crate::proofs::PieceLaws::spread_of_few, crate::proofs::PieceLaws::spread_of_more))]
+pub(crate) fn spread_of(count: usize, cost: f64) -> Option<f64>
     ensures { result ≡ spread_of count cost }
 {
     if count < 2 {
-        return Spread::Absent;
+        return None;
     }
     let others = nearest_u64_to_f64((count - 1) as u64);
-    Spread::Of(not_below_zero(cost) / others)
+    Some(not_below_zero(cost) / others)
 }

@@ -1,20 +1,23 @@
 -- Laws of the lowest and the highest reading: each takes in one more reading, and readings within the range change neither. Assumes nothing.
-use Prim.Native.Nat.{ℕ, zero, suc, ◌+◌, ◌-◌, ◌≤◌, ◌<◌}
+use Prim.Native.Nat.{ℕ, zero, suc, ◌+◌, ◌≤◌, ◌<◌}
 use mathlib.Core.Path.{◌≡◌, refl, sym, ap, ap₂, ◌∙◌}
 use mathlib.Core.Bool.{Bool, true, false, cond, ◌||◌, true≢false, false≢true}
-use mathlib.Core.List.{List}
-use mathlib.Core.Logic.{⊎_elim}
-use native.Mathlib.Nat.{eq-or-lt_of_le, le_of_suc-le-suc}
+use mathlib.Core.List.{List, [], ◌∷◌}
+use native.Mathlib.Nat.{le_refl, le_of_lt}
 use native.Mathlib.Numerals.{add-one}
 use native.Mathlib.Omega.{arith}
 use lib.Dec.{T}
-use lib.ListN.{get_or, length}
+use lib.ListN.{get_or, length, take}
+use lib.Seq.{take-length}
+use Rattle.std.specs.List.{list_any}
+use Rattle.std.proofs.lemmas.List.Sums.{fold_more}
+use Rattle.floats.specs.Numbers.{+∞, -∞}
 use lib.Ieee.{Float, nan, inf, fin, ne, lt}
 use lib.Ieee.Compare.{differs_from_itself}
 use Rattle.floats.specs.MaxMin.{larger, smaller}
 use Rattle.ranges.specs.declared.Range.{Range}
 use Rattle.ranges.specs.Ranges.{lowest_to, highest_to, range_of}
-use Rattle.ranges.specs.Inner.Blocks.{beyond, Within, Taken}
+use Rattle.ranges.specs.Inner.Blocks.{beyond, with_reading, taken_in}
 
 -- ---- neither the lowest nor the highest is NaN
 module _ (before : Float → Float → Bool) (number : (x y : Float) → before x y ≡ true → ne x x ≡ false) where
@@ -75,35 +78,41 @@ unfolding highest_to larger
 highest_more xs i m e = rw (add-one, e, highest_number xs i)
 
 -- ---- readings within the range
--- an `f` that no step from `i` up to `i + n` changes is the same at both
-same_on : (f : ℕ → Float) (i n : ℕ) → ((d : ℕ) → d < n → f (i + d) ≡ f i → f (suc (i + d)) ≡ f i) → f (i + n) ≡ f i
-same_on f i zero h = let z : i + 0 ≡ i = omega arith in ap f z
-same_on f i (suc n) h = let z : i + suc n ≡ suc (i + n) = omega arith in ap f z ∙ h n (omega arith) (same_on f i n (λ d l. h d (omega (arith, l))))
-
-neither : (a b : Bool) → (a || b) ≡ false → (a ≡ false) × (b ≡ false)
-neither true b e = absurd (true≢false e)
-neither false b e = (refl, e)
-
-pub taken_on : (xs : List Float) (i end : ℕ) (r : Range) → Taken xs i r → Within xs i end r → i ≤ end → Taken xs end r
-unfolding lowest_to highest_to smaller larger
-taken_on xs i end r t w l =
-    let e : i + (end - i) ≡ end = omega arith in
-    record {
-      lowest = t.lowest ∙ sym (rw (← e) (same_on (lowest_to xs) i (end - i) (λ d h s. rw s (pick_same lt lower_number (lowest_to xs i) (get_or xs (i + d) nan) (lowest_number xs i) (rw (← t.lowest) (neither (lt (get_or xs (i + d) nan) r.lo) (lt r.hi (get_or xs (i + d) nan)) (w.within (i + d) (omega arith) (omega (arith, h)))).0)))));
-      highest = t.highest ∙ sym (rw (← e) (same_on (highest_to xs) i (end - i) (λ d h s. rw s (pick_same (λ (x m : Float). lt m x) higher_number (highest_to xs i) (get_or xs (i + d) nan) (highest_number xs i) (rw (← t.highest) (neither (lt (get_or xs (i + d) nan) r.lo) (lt r.hi (get_or xs (i + d) nan)) (w.within (i + d) (omega arith) (omega (arith, h)))).1)))));
-    }
-
--- ---- the loops
-pub within_none : {xs : List Float} {i : ℕ} {r : Range} → Within xs i i r
-within_none = record { within = λ j l h. absurd (never l h) }
+stays : (r : Range) (x : Float) → beyond r x ≡ false → with_reading r x ≡ r
+stays r x e = side (lt x r.lo) (lt r.hi x) refl refl e
   where
-    never : {i j : ℕ} → i ≤ j → j < i → ⊥
-    never l h = omega (arith, l, h)
+    side : (a b : Bool) → lt x r.lo ≡ a → lt r.hi x ≡ b → (a || b) ≡ false → with_reading r x ≡ r
+    side true b f g h = absurd (true≢false h)
+    side false true f g h = absurd (true≢false h)
+    side false false f g h = rw (f, g) refl
 
-pub within_more : {xs : List Float} {start i : ℕ} {r : Range} → Within xs start i r → beyond r.lo r.hi (get_or xs i nan) ≡ false → Within xs start (i + 1) r
-within_more {xs} {start} {i} {r} w e =
-    record { within = λ j l h. ⊎_elim (λ q. rw q e) (λ q. w.within j l q) (eq-or-lt_of_le (le_of_suc-le-suc (rw add-one at h))) }
+-- where no reading is beyond the range, it stays
+pub taken_on : (r : Range) (xs : List Float) → list_any (beyond r) xs ≡ false → taken_in r xs ≡ r
+taken_on r [] e = refl
+taken_on r (x ∷ xs) e = side (beyond r x) refl e (λ h. taken_on r xs h)
+  where
+    side : (b : Bool) → beyond r x ≡ b → (b || list_any (beyond r) xs) ≡ false → (list_any (beyond r) xs ≡ false → taken_in r xs ≡ r) → taken_in (with_reading r x) xs ≡ r
+    side true f h k = absurd (true≢false h)
+    side false f h k = ap (λ (z : Range). taken_in z xs) (stays r x f) ∙ k h
 
-pub taken_all : (xs : List Float) (i : ℕ) (r : Range) → Taken xs i r → i ≡ length xs → r ≡ range_of xs
+-- ---- all readings, from an empty range
+abbrev pub none : Range
+none = record { lo = +∞; hi = -∞ }
+
+taken_to : (xs : List Float) (i : ℕ) → i ≤ length xs → taken_in none (take i xs) ≡ record { lo = lowest_to xs i; hi = highest_to xs i }
+unfolding lowest_to highest_to
+taken_to xs zero l = refl
+taken_to xs (suc i) l =
+    let h : i < length xs = l in
+    let e = taken_to xs i (le_of_lt h) in
+    rw add-one at (fold_more with_reading none xs i nan h)
+    ∙ ap₂ (λ (a b : Float). record { lo = a; hi = b }) (rw add-one at (lowest_more xs i _ (ap (λ (z : Range). z.lo) e))) (rw add-one at (highest_more xs i _ (ap (λ (z : Range). z.hi) e)))
+
+taken_all : (xs : List Float) → taken_in none xs ≡ range_of xs
 unfolding range_of
-taken_all xs i r t e = ap₂ (λ (a b : Float). record { lo = a; hi = b }) (t.lowest ∙ ap (lowest_to xs) e) (t.highest ∙ ap (highest_to xs) e)
+taken_all xs = ap (taken_in none) (sym (take-length xs)) ∙ taken_to xs (length xs) (le_refl (length xs))
+
+-- where nothing is left to come, all are taken in
+pub taken_whole : (r : Range) (xs ys : List Float) → taken_in r xs ≡ taken_in none ys → length xs ≡ 0 → r ≡ range_of ys
+taken_whole r [] ys e l = e ∙ taken_all ys
+taken_whole r (x ∷ xs) ys e l = absurd (omega arith)

@@ -10,28 +10,20 @@
 // law of `proofs/ViewLaws`.
 #![tactic(auto)]
 
-mod channels;
+mod channel;
 mod gaps;
 mod lengths;
 mod view;
 
 pub use gaps::all_finite;
 pub use lengths::shape;
-use refusals::Refusal;
 pub use view::channel_of;
 
-// What the lengths say of a run: `count` channels of `length` readings each, or a refusal.
+// The channels of a run: `count` of them, with `length` readings each.
 #[derive(Clone, Copy)]
-pub enum Shaped {
-    Channels { count: usize, length: usize },
-    Refused(Refusal),
-}
-
-// Whether all readings are finite; if not, refusal 8 with the channel and index of the first gap.
-#[derive(Clone, Copy)]
-pub enum Checked {
-    Finite,
-    Refused(Refusal),
+pub struct Channels {
+    pub count: usize,
+    pub length: usize,
 }
 
 // The view: the flat `run`, taken for `channels` channels of `length` readings each.

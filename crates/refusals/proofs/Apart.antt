@@ -11,7 +11,7 @@ use Rattle.refusals.specs.Stated.{Stated, stated}
 use Rattle.refusals.specs.Said.{refusing, said}
 use Rattle.refusals.specs.declared.Refusal.{Refusal}
 use Rattle.refusals.specs.declared.Refusal.TheVariants.{Penalty, MinLen, Channels, Shape, Unequal, TooLong, Room, NonFinite, Pool, Form, Piece, Target, Sigma, Weight, Bound}
-use Rattle.refusals.specs.declared.Answer.{Answer}
+use Rattle.std.specs.Prelude.{Result, Ok, Err}
 
 -- each refusal with its number, where the values that are stated are `v`; numbers may have holes
 cases : List ℕ → List (ℕ × Refusal)
@@ -66,11 +66,11 @@ stated_apart r q e = let both : some r ≡ some q = sym (read_back r) ∙ ap rea
 pub refused_apart : (r q : Refusal) → refusing r ≡ refusing q → r ≡ q
 refused_apart r q e = let s : stated r ≡ stated q = cc in stated_apart r q s
 
-pub answers_apart : (r q : Answer) → said r ≡ said q → r ≡ q
-answers_apart (Answer.Count n) (Answer.Count m) e = cc
-answers_apart (Answer.Refused r) (Answer.Refused q) e = ap Answer.Refused (refused_apart r q e)
-answers_apart (Answer.Count n) (Answer.Refused q) e = cc
-answers_apart (Answer.Refused r) (Answer.Count m) e = cc
+pub answers_apart : (r q : Result ℕ Refusal) → said r ≡ said q → r ≡ q
+answers_apart (Ok n) (Ok m) e = cc
+answers_apart (Err r) (Err q) e = ap Err (refused_apart r q e)
+answers_apart (Ok n) (Err q) e = cc
+answers_apart (Err r) (Ok m) e = cc
 
 -- a number names its refusal
 by_number : (r : Refusal) (n : ℕ) → (stated r).number ≡ n → some r ≡ numbered (cases (stated r).values) n

@@ -8,7 +8,7 @@ use Rattle.refusals.specs.Stated.{Stated, stated}
 use Rattle.refusals.specs.Tried.{tried, passed, counted}
 use Rattle.refusals.specs.Said.{refused, answered, refusing}
 use Rattle.refusals.specs.declared.Refusal.{Refusal}
-use Rattle.refusals.specs.declared.Answer.TheVariants as Answer
+use Rattle.std.specs.Prelude.{Ok, Err}
 
 module _ {A B : Type 0} (f : A → B) (refuse : Refusal → A) where
   -- what is made of an answer that is tried is tried itself
@@ -64,7 +64,7 @@ passed_right ((false, r) ∷ ts) us e = passed_right ts us e
 -- ---- what comes of tests: none holds, or one does, and its refusal is the answer whatever was to be counted
 pub data Verdict (ts : List (Bool × Refusal)) : Type 0 where
   passes : passed ts ≡ true → Verdict ts
-  refuses : (r : Refusal) → ((count : ℕ) → counted ts count ≡ Answer.Refused r) → Verdict ts
+  refuses : (r : Refusal) → ((count : ℕ) → counted ts count ≡ Err r) → Verdict ts
 
 pub verdict : (ts : List (Bool × Refusal)) → Verdict ts
 unfolding tried passed
@@ -73,7 +73,7 @@ verdict ((true, r) ∷ ts) = refuses r (λ count. refl)
 verdict ((false, r) ∷ ts) = elim (verdict ts) [ passes p ↦ passes p | refuses q f ↦ refuses q f ]
 
 -- a refusal is no count, and what is said of it no result
-pub no_count : (r : Refusal) (k : ℕ) → Answer.Count k ≡ Answer.Refused r → ⊥
+pub no_count : (r : Refusal) (k : ℕ) → Ok k ≡ Err r → ⊥
 no_count r k e = clash cc
 
 pub no_result : (s : Stated) (values : List ℕ) → answered values ≡ refused s → ⊥

@@ -1,8 +1,7 @@
 -- What each refusal says: its number, and the values that go with it. Rules 2.1 and 2.2. Definitions only.
-use Rattle.std.specs.Prelude.{ℕ, List, [], ◌∷◌, length, get_or}
+use Rattle.std.specs.Prelude.{ℕ, List, [], ◌∷◌, Option, Some, None}
 use Rattle.refusals.specs.declared.Refusal.{Refusal}
 use Rattle.refusals.specs.declared.Refusal.TheVariants.{Penalty, MinLen, Channels, Shape, Unequal, TooLong, Room, NonFinite, Pool, Form, Piece, Target, Sigma, Weight, Bound}
-use Rattle.refusals.specs.declared.Values.{Values}
 
 -- a number, and the values that are given with it
 pub record Stated : Type 0 where
@@ -31,6 +30,11 @@ stated Sigma = plain 16
 stated Weight = plain 17
 stated Bound = plain 18
 
--- the values that are stated: how many, the first and the second, 0 for one that is not there
-unfoldable pub values_of : Refusal → Values
-values_of r = let values = (stated r).values in record { count = length values; first = get_or values 0 0; second = get_or values 1 0 }
+-- the two of a list of two
+abbrev pub both_of : List ℕ → Option (ℕ × ℕ)
+both_of (a ∷ b ∷ []) = Some (a, b)
+both_of values = None
+
+-- the values that are stated: the channel and the index, or none
+unfoldable pub values_of : Refusal → Option (ℕ × ℕ)
+values_of r = both_of (stated r).values

@@ -1,7 +1,6 @@
 -- The order in which refusals are tried, for any kind of answer. Rule 2.4. Definitions only.
-use Rattle.std.specs.Prelude.{ℕ, Bool, true, not, ◌&&◌, cond, List, [], ◌∷◌}
+use Rattle.std.specs.Prelude.{ℕ, Bool, true, not, ◌&&◌, cond, List, [], ◌∷◌, Result, Ok, Err}
 use Rattle.refusals.specs.declared.Refusal.{Refusal}
-use Rattle.refusals.specs.declared.Answer.{Answer}
 
 -- the first refusal whose test holds, and `result` where none does; `refuse` makes an answer of a refusal
 unfoldable pub tried : {A : Type 0} → (Refusal → A) → List (Bool × Refusal) → A → A
@@ -14,10 +13,10 @@ passed [] = true
 passed (t ∷ ts) = not t.0 && passed ts
 
 -- the first refusal whose test holds, and `count` where none does
-abbrev pub counted : List (Bool × Refusal) → ℕ → Answer
-counted tests count = tried Answer.Refused tests (Answer.Count count)
+abbrev pub counted : List (Bool × Refusal) → ℕ → Result ℕ Refusal
+counted tests count = tried Err tests (Ok count)
 
 -- how much was written: the count, and nothing on a refusal
-abbrev pub count_of : Answer → ℕ
-count_of (Answer.Count n) = n
-count_of (Answer.Refused r) = 0
+abbrev pub count_of : Result ℕ Refusal → ℕ
+count_of (Ok n) = n
+count_of (Err r) = 0

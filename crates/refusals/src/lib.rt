@@ -1,5 +1,6 @@
-// Every refusal of the library, the number and the values by which it is known outside, the answer of a
-// call that counts, and the two limits that are refused beyond.
+// Every refusal of the library, the number and the values by which it is known outside, and the two limits
+// that are refused beyond. A call that counts records, indices or cuts answers `Result<usize, Refusal>`:
+// how many it wrote, or the refusal for which it wrote none.
 //
 // The numbers and their values are those of rule 2.1. They are written here and nowhere else: a caller that
 // prints or stores a refusal asks `number` and `values`, and code that keeps a limit names it. So a new
@@ -21,7 +22,7 @@ pub const MAX_CHANNELS: usize = 8;
 // for among as many.
 pub const MAX_READINGS: usize = 4096;
 
-#[derive(Clone, Copy)]
+#[derive(Clone, Copy, PartialEq, Eq, Debug)]
 pub enum Refusal {
     // A custom penalty is not finite or not above 0.
     Penalty,
@@ -55,22 +56,6 @@ pub enum Refusal {
     Bound,
 }
 
-// How many records, indices or cuts a call wrote, or the refusal for which it wrote none.
-#[derive(Clone, Copy)]
-pub enum Answer {
-    Count(usize),
-    Refused(Refusal),
-}
-
-// The values that a refusal carries: `count` of them, the `first` and the `second`, which are 0 where
-// it carries none.
-#[derive(Clone, Copy)]
-pub struct Values {
-    pub count: usize,
-    pub first: usize,
-    pub second: usize,
-}
-
 impl Refusal {
     // The number of this refusal.
     pub fn number(self) -> u64
@@ -98,21 +83,14 @@ impl Refusal {
         }
     }
 
-    // The values that go with the number. Every other crate asks here, and matches on no refusal.
-    pub fn values(self) -> Values
+    // The channel and the index that go with the number, where the refusal carries them. Every other crate
+    // asks here, and matches on no refusal.
+    pub fn values(self) -> Option<(usize, usize)>
         ensures { result ≡ values_of self }
     {
         match self {
-            Refusal::NonFinite { channel, index } => Values {
-                count: 2,
-                first: channel,
-                second: index,
-            },
-            _ => Values {
-                count: 0,
-                first: 0,
-                second: 0,
-            },
+            Refusal::NonFinite { channel, index } => Some((channel, index)),
+            _ => None,
         }
     }
 }

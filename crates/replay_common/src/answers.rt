@@ -1,96 +1,130 @@
 // Comparing the answers that are alike for all charts: numbers of results, refusals, and indices.
-use crate::input::{Source, Stored, next_number};
+use crate::input::{Source, next_number};
 use crate::progress::Progress;
-use refusals::Answer;
+use refusals::Refusal;
 use std::io;
 
 // What lent indices are before a call: no index of a reading.
-pub const UNUSED: usize = 9999;
+pub(crate) const UNUSED: usize = 9999;
 
 // The kinds that are counted: the answers for a series, its records and its indices, the lent records
-// and indices that a call has to leave alone, and answers at a limit that no stored case has.
-pub const SERIES: usize = 0;
+// and indices that a call has to leave alone, answers at a limit that no stored case has, and of a
+// CUSUM chart the run lengths.
+#[derive(Clone, Copy)]
+pub enum Kind {
+    Series,
+    Record,
+    Point,
+    Kept,
+    Limit,
+    RunLength,
+}
 
-pub const RECORD: usize = 1;
+// What is compared beside the fields of a record, whose values have the numbers below: the answers of
+// `signal_points` and `analyze`, an index, a lent index behind the last, and a run length.
+#[derive(Clone, Copy)]
+pub enum Value {
+    Marked = 5,
+    Charted,
+    Point,
+    Kept,
+    RunLength,
+}
 
-const POINT: usize = 2;
+// How many signal indices and how many records a call is to write.
+#[derive(Clone, Copy, Default)]
+pub(crate) struct Counts {
+    pub points: usize,
+    pub records: usize,
+}
 
-pub const KEPT: usize = 3;
-
-pub const LIMIT: usize = 4;
+// What a call is to answer: its counts, or the number of its refusal.
+pub(crate) type Expected = Result<Counts, u64>;
 
 // `answer` as one number: how many results there are, or a refusal's number 32 bits higher.
-fn in_one(answer: Answer) -> u64 {
+fn in_one(answer: Result<usize, u64>) -> u64 {
     match answer {
-        Answer::Count(n) => n as u64,
-        Answer::Refused(r) => r.number() << 32,
+        Ok(count) => count as u64,
+        Err(number) => number << 32,
     }
 }
 
-// Compares the answers of `signal_points` and `analyze`, `marked` and `answer`, with the refusal of the
-// number `refusal`, or where that is 0 with how many results there are to be, `points` and `records`;
-// returns `progress` with them counted as one of the kind `kind`.
-pub fn match_answers(
+// Compares the answers of `signal_points` and `analyze`, `marked` and `charted`, with what is
+// `expected`, and counts them as one of the kind `kind`.
+pub(crate) fn match_answers(
     progress: Progress,
-    kind: usize,
-    refusal: u64,
-    points: usize,
-    marked: Answer,
-    records: usize,
-    answer: Answer,
+    kind: Kind,
+    expected: Expected,
+    marked: Result<usize, Refusal>,
+    charted: Result<usize, Refusal>,
 ) -> io::Result<Progress> {
-    let refused = refusal << 32;
+    let points = expected.map(|counts| counts.points);
+    let records = expected.map(|counts| counts.records);
     let both = progress
-        .matched(5, 0, refused | points as u64, in_one(marked))?
-        .matched(6, 0, refused | records as u64, in_one(answer))?;
-    Ok(both.counted(kind))
+        .matched(
+            5,
+            0,
+            in_one(points),
+            in_one(marked.map_err(Refusal::number)),
+        )?
+        .matched(
+            6,
+            0,
+            in_one(records),
+            in_one(charted.map_err(Refusal::number)),
+        )?;
+    Ok(both.counted(kind as usize))
 }
 
-// How many signal indices the input has next for a series with the refusal `refusal`: the next number of
-// the input if that is 0, and none otherwise.
-pub fn next_count(source: &mut Source, refusal: u64) -> io::Result<Stored> {
-    if refusal == 0 {
-        return next_number(source, 2);
+// What the input says next that a chart is to answer for `readings` readings, where the number of its
+// refusal is `refusal`: as many records, and the next number of indices.
+pub(crate) fn next_expected(
+    source: &mut Source,
+    refusal: Option<u64>,
+    readings: usize,
+) -> io::Result<Option<Expected>> {
+    if let Some(number) = refusal {
+        return Ok(Some(Err(number)));
     }
-    Ok(Stored {
-        value: 0,
-        whole: true,
-    })
+    let Some(points) = next_number::<2>(source)? else {
+        return Ok(None);
+    };
+    Ok(Some(Ok(Counts {
+        points: points as usize,
+        records: readings,
+    })))
 }
 
 // Compares the index `got`, which the lent ones have at `place`, with the one that the input has next if
-// it is `stored`, and otherwise with what was there before the call; returns `progress` after that.
-pub fn compare_point(
+// it is `stored`, and otherwise with what was there before the call.
+fn compare_point(
     progress: Progress,
     source: &mut Source,
     place: usize,
     got: usize,
     stored: bool,
 ) -> io::Result<Progress> {
-    if stored {
-        let next = next_number(source, 2)?;
-        if next.whole {
-            let matched = progress.matched(7, place, next.value, got as u64)?;
-            return Ok(matched.counted(POINT));
-        }
-        return progress.stopped();
+    if !stored {
+        let matched = progress.matched(Value::Kept as u64, place, UNUSED as u64, got as u64)?;
+        return Ok(matched.counted(Kind::Kept as usize));
     }
-    let matched = progress.matched(8, place, UNUSED as u64, got as u64)?;
-    Ok(matched.counted(KEPT))
+    let Some(expected) = next_number::<2>(source)? else {
+        return progress.stopped();
+    };
+    let matched = progress.matched(Value::Point as u64, place, expected, got as u64)?;
+    Ok(matched.counted(Kind::Point as usize))
 }
 
-// Compares the lent indices `points`, of which the first `stored` are stored in the input, and returns
-// `progress` after that. Cost: one turn for each lent index.
-pub fn compare_points(
+// Compares the lent indices `points`, of which the first `stored` are stored in the input. Cost: one
+// turn for each lent index.
+pub(crate) fn compare_points(
     mut progress: Progress,
     source: &mut Source,
-    points: &[usize; 4097],
+    points: &[usize],
     stored: usize,
 ) -> io::Result<Progress> {
-    let mut i = 0;
-    while i < 4097 {
-        progress = compare_point(progress, source, i, points[i], i < stored)?;
-        i += 1;
+    for (place, got) in points.iter().enumerate() {
+        progress = compare_point(progress, source, place, *got, place < stored)?;
     }
     Ok(progress)
 }

@@ -1,7 +1,6 @@
-// Reading a case from standard input. Numbers are written with their highest byte first. A read that
-// fails is an error, and never the end of the input.
-ghost use Rattle.std.specs.Prelude.{◌+◌, ◌≤◌, length, IfOk};
-ghost use Rattle.replay_common.specs.Front.{Front};
+// Reading a case from standard input. Numbers are written with their highest byte first. What the input
+// ends before is none; a read that fails is an error, and never the end of the input.
+ghost use Rattle.std.specs.Prelude.{◌≡◌, ◌^◌, ◌<◌, ◌≤◌, length, take, IfOk};
 
 use std::io;
 use std::io::{BufReader, Read, Stdin};
@@ -12,55 +11,35 @@ pub struct Source {
     reader: BufReader<Stdin>,
 }
 
-// Bytes of the input, at the front of `bytes`.
-#[derive(Drop)]
-pub struct Block {
-    pub bytes: [u8; 33],
-    // Whether the input had all the bytes that were wanted, and whether it had any.
-    pub whole: bool,
-    pub begun: bool,
-}
-
-// A number of the input, `value`, and whether the input had all of its bytes.
-#[derive(Clone, Copy)]
-pub struct Stored {
-    pub value: u64,
-    pub whole: bool,
-}
-
-// A series of `count` readings, at the front of `readings`, the number of its refusal, or 0, and whether
-// the input had all of it.
+// A series of `count` readings, at the front of `area`, and the number of its refusal, if it is refused.
+// No Vec: a program allocates one buffer, for standard input, and nothing else (docs/ASSUMPTIONS.md).
 #[derive(Drop)]
 pub struct Series {
-    pub readings: [f64; 4096],
+    pub area: [f64; 4096],
     pub count: usize,
-    pub refusal: u64,
-    pub whole: bool,
+    pub refusal: Option<u64>,
+    ghost fits: { count ≤ 4096 },
 }
 
-// `byte` as a number of 64 bits.
-fn wide(byte: u8) -> u64 {
-    byte as u64
-}
-
-// The number that `bytes[start..start + width]` writes. Cost: one turn for each byte.
-pub fn number(bytes: &[u8; 33], start: usize, width: usize) -> u64
-    requires { start + width ≤ 33 }
-{
-    let mut value = 0u64;
-    let mut i = 0;
-    while i < width {
-        value = value << 8 | wide(bytes[start + i]);
-        i += 1;
+impl Series {
+    // The readings of the series.
+    pub fn readings(&self) -> &[f64]
+        ensures { result.now ≡ take self.now.count self.now.area }
+    {
+        &self.area[..self.count]
     }
-    value
 }
 
-// The float whose bit pattern `bytes[start..start + 8]` writes.
-pub fn float(bytes: &[u8; 33], start: usize) -> f64
-    requires { start ≤ 25 }
-{
-    floats::from_bits(number(bytes, start, 8))
+// The number that `bytes` write. Cost: one turn for each byte.
+pub fn number(bytes: &[u8]) -> u64 {
+    bytes
+        .iter()
+        .fold(0, |value, byte| value << 8 | u64::from(*byte))
+}
+
+// The float whose bit pattern `bytes` write.
+pub fn float(bytes: &[u8]) -> f64 {
+    floats::from_bits(number(bytes))
 }
 
 impl Source {
@@ -76,6 +55,7 @@ impl Source {
         ensures { IfOk result (λ count. count ≤ length area.new) }
     {
         let mut done = 0;
+        // No `for`: a turn goes on by as many bytes as its read gave.
         while done < area.len() {
             let got = self.reader.read(&mut area[done..])?;
             if got == 0 {
@@ -87,70 +67,58 @@ impl Source {
     }
 }
 
-// The next `width` bytes of the input.
-pub fn next_block(source: &mut Source, width: usize) -> io::Result<Block>
-    requires { width ≤ 33 }
-{
-    let mut bytes = [0u8; 33];
-    let count = source.read_full(&mut bytes[..width])?;
-    Ok(Block {
-        bytes,
-        whole: count == width,
-        begun: count != 0,
-    })
+// The next `N` bytes of the input, if it has as many.
+pub fn next_block<const N: usize>(source: &mut Source) -> io::Result<Option<[u8; N]>> {
+    let mut bytes = [0; N];
+    let count = source.read_full(&mut bytes)?;
+    if count < N {
+        return Ok(None);
+    }
+    Ok(Some(bytes))
 }
 
-// The next number of the input, of `width` bytes.
-pub fn next_number(source: &mut Source, width: usize) -> io::Result<Stored>
-    requires { width ≤ 33 }
+// The number that the next `N` bytes of the input write, if it has as many.
+pub fn next_number<const N: usize>(source: &mut Source) -> io::Result<Option<u64>>
+    requires { N < 2 ^ 63 }
 {
-    let block = next_block(source, width)?;
-    let bytes = block.bytes;
-    Ok(Stored {
-        value: number(&bytes, 0, width),
-        whole: block.whole,
-    })
+    let Some(bytes) = next_block::<N>(source)? else {
+        return Ok(None);
+    };
+    Ok(Some(number(&bytes)))
 }
 
 // The next `count` readings of the input, as a series without a refusal. Cost: one turn for each.
-pub fn next_readings(source: &mut Source, count: usize) -> io::Result<Series>
+pub fn next_readings(source: &mut Source, count: usize) -> io::Result<Option<Series>>
     requires { count ≤ 4096 }
-    ensures { IfOk result (λ series. Front series.count series.readings) }
 {
-    let mut readings = [0.0; 4096];
-    let mut whole = true;
-    let mut i = 0;
-    while i < count {
-        let next = next_number(source, 8)?;
-        readings[i] = floats::from_bits(next.value);
-        whole = whole & next.whole;
-        i += 1;
+    let mut area = [0.0; 4096];
+    for reading in area[..count].iter_mut() {
+        let Some(pattern) = next_number::<8>(source)? else {
+            return Ok(None);
+        };
+        *reading = floats::from_bits(pattern);
     }
-    Ok(Series {
-        readings,
+    Ok(Some(Series {
+        area,
         count,
-        refusal: 0,
-        whole,
-    })
+        refusal: None,
+    }))
 }
 
 // The next series: the number of its readings, each of them, and the number of the refusal, or 0.
-pub fn next_series(source: &mut Source) -> io::Result<Series>
-    ensures { IfOk result (λ series. Front series.count series.readings) }
-{
-    let length = next_number(source, 2)?;
-    let count = length.value as usize;
-    if count <= 4096 {
-        let mut series = next_readings(source, count)?;
-        let last = next_number(source, 1)?;
-        series.refusal = last.value;
-        series.whole = length.whole & series.whole & last.whole;
-        return Ok(series);
+pub fn next_series(source: &mut Source) -> io::Result<Option<Series>> {
+    let Some(count) = next_number::<2>(source)? else {
+        return Ok(None);
+    };
+    if 4096 < count {
+        return Ok(None);
     }
-    Ok(Series {
-        readings: [0.0; 4096],
-        count: 0,
-        refusal: 0,
-        whole: false,
-    })
+    let Some(mut series) = next_readings(source, count as usize)? else {
+        return Ok(None);
+    };
+    let Some(refusal) = next_number::<1>(source)? else {
+        return Ok(None);
+    };
+    series.refusal = if refusal == 0 { None } else { Some(refusal) };
+    Ok(Some(series))
 }

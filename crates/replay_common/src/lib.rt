@@ -8,14 +8,15 @@
 #![tactic(auto)]
 
 mod answers;
+mod cases;
+mod chart;
 mod input;
 mod progress;
 
-pub use answers::{
-    KEPT, LIMIT, RECORD, SERIES, UNUSED, compare_point, compare_points, match_answers, next_count,
-};
+pub use answers::{Kind, Value};
+pub use cases::{Case, replay_cases};
+pub use chart::{StoredChart, replay_chart};
 pub use input::{
-    Block, Series, Source, Stored, float, next_block, next_number, next_readings, next_series,
-    number,
+    Series, Source, float, next_block, next_number, next_readings, next_series, number,
 };
 pub use progress::Progress;

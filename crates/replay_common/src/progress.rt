@@ -1,51 +1,73 @@
 // What was compared so far, and what was found.
-ghost use Rattle.std.specs.Prelude.{◌≤◌};
+ghost use Rattle.std.specs.Prelude.{◌≡◌, false, IfOk};
 
-use crate::input::number;
-use std::io;
 use std::io::Stdout;
-use std::num::wrapping_add_u64;
+use std::{fmt, io};
 
+// How many things of a kind were compared, and how many of them differ.
 #[derive(Clone, Copy)]
-pub struct Progress {
-    // Where what was found is printed.
-    pub out: Stdout,
-    // How many things were compared of each kind, and how many of them differ. Each program says in its
-    // first lines what its kinds are.
-    pub cases: [u64; Progress::KINDS],
-    pub differ: [u64; Progress::KINDS],
-    // How many cases were begun.
-    pub begun: u64,
-    // How many differences may still be shown.
-    pub lines: u64,
-    // 1 if something differs that was compared since the last count, or 0.
-    pub unlike: u64,
-    // Whether there may be more: each case so far was whole, and none was the last.
-    pub more: bool,
+struct Tally {
+    cases: u64,
+    differ: u64,
 }
 
-// Prints a line for a difference in the case `begun`: the value with the number `value`, at the index
-// `place`, is `got` and not `expected`, as bit patterns in hexadecimal digits.
-fn show(
-    out: &Stdout,
-    begun: u64,
+impl Tally {
+    // The tally with one more, which is `unlike` what is stored or not.
+    fn counted(self, unlike: bool) -> Tally {
+        Tally {
+            cases: self.cases.wrapping_add(1),
+            differ: self.differ.wrapping_add(u64::from(unlike)),
+        }
+    }
+}
+
+impl fmt::Display for Tally {
+    fn fmt<W: fmt::Write>(&self, f: &mut fmt::Formatter<W>) -> fmt::Result {
+        let cases = self.cases;
+        let differ = self.differ;
+        write!(f, "{cases}, {differ} differ")
+    }
+}
+
+// A difference in the case `case`: the value with the number `value`, at the index `place`, is `got` and
+// not `expected`, as bit patterns.
+#[derive(Clone, Copy)]
+struct Difference {
+    case: u64,
     value: u64,
     place: usize,
     expected: u64,
     got: u64,
-) -> io::Result<()> {
-    println!(out;
-        "case {begun} value {value} place {place} expected {expected:016x} got {got:016x}"
-    )
 }
 
-// Prints a line for the kind `kind`, of which there are `cases` and `differ` of those differ; none where
-// there are no cases.
-fn report_kind(out: &Stdout, kind: usize, cases: u64, differ: u64) -> io::Result<()> {
-    if cases == 0 {
-        return Ok(());
+impl fmt::Display for Difference {
+    fn fmt<W: fmt::Write>(&self, f: &mut fmt::Formatter<W>) -> fmt::Result {
+        let case = self.case;
+        let value = self.value;
+        let place = self.place;
+        let expected = self.expected;
+        let got = self.got;
+        write!(
+            f,
+            "case {case} value {value} place {place} expected {expected:016x} got {got:016x}"
+        )
     }
-    println!(out; "kind {kind}: {cases}, {differ} differ")
+}
+
+#[derive(Clone, Copy)]
+pub struct Progress {
+    // Where what was found is printed.
+    out: Stdout,
+    // What was compared of each kind. Each program says what its kinds are.
+    tallies: [Tally; Progress::KINDS],
+    // How many cases were begun.
+    begun: u64,
+    // How many differences may still be shown.
+    lines: u64,
+    // Whether something differs that was compared since the last count.
+    pub unlike: bool,
+    // Whether there may be more: each case so far was whole, and none was the last.
+    pub more: bool,
 }
 
 impl Progress {
@@ -54,31 +76,38 @@ impl Progress {
 
     // No case so far, and 20 lines for differences, which go to `out`.
     pub fn new(out: Stdout) -> Progress {
+        let none = Tally {
+            cases: 0,
+            differ: 0,
+        };
         Progress {
             out,
-            cases: [0; Progress::KINDS],
-            differ: [0; Progress::KINDS],
+            tallies: [none; Progress::KINDS],
             begun: 0,
             lines: 20,
-            unlike: 0,
+            unlike: false,
             more: true,
         }
     }
 
     // The progress with one case more begun.
     pub fn begun(mut self) -> Progress {
-        self.begun = wrapping_add_u64(self.begun, 1);
+        self.begun = self.begun.wrapping_add(1);
         self
     }
 
     // The progress at the end: there is no case more.
-    pub fn ended(mut self) -> Progress {
+    pub fn ended(mut self) -> Progress
+        ensures { result.more ≡ false }
+    {
         self.more = false;
         self
     }
 
     // The progress at the end, where the case is not whole or of no known form, which is printed.
-    pub fn stopped(self) -> io::Result<Progress> {
+    pub fn stopped(self) -> io::Result<Progress>
+        ensures { IfOk result (λ progress. progress.more ≡ false) }
+    {
         let out = self.out;
         let begun = self.begun;
         println!(out; "too short, or of no known form: case {begun}")?;
@@ -97,36 +126,40 @@ impl Progress {
         if expected == got {
             return Ok(self);
         }
-        self.unlike = 1;
+        self.unlike = true;
         if self.lines == 0 {
             return Ok(self);
         }
-        self.lines = self.lines - 1;
+        self.lines -= 1;
         let out = self.out;
-        show(&out, self.begun, value, place, expected, got)?;
+        let difference = Difference {
+            case: self.begun,
+            value,
+            place,
+            expected,
+            got,
+        };
+        println!(out; "{difference}")?;
         Ok(self)
     }
 
-    // The same of the float `got`, the value `value` at the index `place`, whose bit pattern is stored
-    // in `bytes[start..start + 8]`.
+    // The same of the float `got`, the value `value` at the index `place`, whose bit pattern is to be
+    // `expected`.
     pub fn matched_float(
         self,
         value: u64,
         place: usize,
-        bytes: &[u8; 33],
-        start: usize,
+        expected: u64,
         got: f64,
-    ) -> io::Result<Progress>
-        requires { start ≤ 25 }
-    {
-        self.matched(value, place, number(bytes, start, 8), floats::to_bits(got))
+    ) -> io::Result<Progress> {
+        self.matched(value, place, expected, floats::to_bits(got))
     }
 
-    // The progress with one more of the kind `kind`, which differs if `unlike` is 1.
-    pub fn tallied(mut self, kind: usize, unlike: u64) -> Progress {
+    // The progress with one more of the kind `kind`, which is `unlike` what is stored or not.
+    pub fn tallied(mut self, kind: usize, unlike: bool) -> Progress {
         let place = kind % Progress::KINDS;
-        self.cases[place] = wrapping_add_u64(self.cases[place], 1);
-        self.differ[place] = wrapping_add_u64(self.differ[place], unlike);
+        let tally = self.tallies[place];
+        self.tallies[place] = tally.counted(unlike);
         self
     }
 
@@ -134,7 +167,7 @@ impl Progress {
     // that does.
     pub fn counted(mut self, kind: usize) -> Progress {
         let unlike = self.unlike;
-        self.unlike = 0;
+        self.unlike = false;
         self.tallied(kind, unlike)
     }
 
@@ -142,10 +175,10 @@ impl Progress {
     // for each kind.
     pub fn report(self) -> io::Result<()> {
         let out = self.out;
-        let mut kind = 0;
-        while kind < Progress::KINDS {
-            report_kind(&out, kind, self.cases[kind], self.differ[kind])?;
-            kind += 1;
+        for (kind, tally) in self.tallies.iter().enumerate() {
+            if tally.cases != 0 {
+                println!(out; "kind {kind}: {tally}")?;
+            }
         }
         Ok(())
     }

@@ -12,82 +12,17 @@
 //     9         a run length, or a refusal 32 bits higher
 //
 // The answers are the unmodified Rust's. `tests/vectors/run` makes standard input; the first lines of
-// `tests/vectors/charts.rs` say what a case is made of. At the end come calls that the Rust can't show:
-// see `limits`.
+// `tests/vectors/charts.rs` say what a case is made of. At the end come calls that the Rust can't show,
+// by `replay_common`.
 #![tactic(auto)]
 
-mod lend;
-mod limits;
 mod records;
 mod run_length;
 
-use charts::Sum;
-use cusum::Cusum;
-use limits::limits;
-use records::replay_answers;
-use replay_common::{Block, Progress, SERIES, Source, float};
-use run_length::replay_run_length;
+use records::{Stored, UNUSED};
+use replay_common::replay_chart;
 use std::io;
-use std::io::Stdout;
-
-// Replays the series that the input has next, by `chart`.
-fn replay_series(progress: Progress, source: &mut Source, chart: Cusum) -> io::Result<Progress> {
-    let series = replay_common::next_series(source)?;
-    if series.whole {
-        let readings = series.readings;
-        let count = series.count;
-        let refusal = series.refusal;
-        return replay_answers(progress, source, chart, &readings[..count], refusal, SERIES);
-    }
-    progress.stopped()
-}
-
-// The chart whose settings `bytes` has.
-fn chart_of(bytes: &[u8; 33]) -> Cusum {
-    let target = float(bytes, 1);
-    let sigma = float(bytes, 9);
-    if bytes[0] == b'n' {
-        return Cusum::new(target, sigma);
-    }
-    Cusum::with_params(target, sigma, float(bytes, 17), float(bytes, 25))
-}
-
-// Replays the case whose first 33 bytes are `block`.
-fn replay_case(progress: Progress, source: &mut Source, block: Block) -> io::Result<Progress> {
-    if !block.begun {
-        return Ok(progress.ended());
-    }
-    let begun = progress.begun();
-    if !block.whole {
-        return begun.stopped();
-    }
-    let bytes = block.bytes;
-    let chart = chart_of(&bytes);
-    match bytes[0] {
-        b'n' | b'p' => replay_series(begun, source, chart),
-        b'u' => replay_run_length(begun, source, chart, Sum::Upper),
-        b'l' => replay_run_length(begun, source, chart, Sum::Lower),
-        _ => begun.stopped(),
-    }
-}
-
-// Replays the cases of `source`. The count ends the loop, since nothing says that the input does.
-fn replay_all(out: Stdout, source: &mut Source) -> io::Result<Progress> {
-    let mut progress = Progress::new(out);
-    let mut turn = 0u64;
-    while turn < u64::MAX {
-        let block = replay_common::next_block(source, 33)?;
-        progress = replay_case(progress, source, block)?;
-        if !progress.more {
-            return Ok(progress);
-        }
-        turn += 1;
-    }
-    Ok(progress)
-}
 
 fn main(rt: HostRuntime) -> io::Result<()> {
-    let mut source = Source::new(&rt)?;
-    let replayed = replay_all(rt.stdout(), &mut source)?;
-    limits(replayed, &mut source)?.report()
+    replay_chart::<Stored>(&rt, &mut [UNUSED; 4097])
 }

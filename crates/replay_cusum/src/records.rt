@@ -1,135 +1,114 @@
-// Comparing what a chart makes of a series with what is stored of it.
-use crate::lend::lend;
-use charts::{Observation, Side};
+// How a CUSUM chart's cases and records are stored.
+use crate::run_length::replay_run_length;
+use charts::{Observation, Side, Sum};
 use cusum::{Cusum, CusumResult};
-use replay_common::{KEPT, Progress, RECORD, Source, number};
+use floats::{from_bits, to_bits};
+use refusals::Refusal;
+use replay_common::{Case, Progress, Source, StoredChart, next_block, number};
 use std::io;
+
+// A chart whose answers are stored.
+#[derive(Clone, Copy)]
+pub(crate) struct Stored(Cusum);
 
 // A record as numbers, its values by their bit patterns. The `mark` is the index, and 32 bits higher the
 // number of the side.
 #[derive(Clone, Copy)]
-struct Fields {
+pub(crate) struct Fields {
     s_upper: u64,
     s_lower: u64,
     mark: u64,
 }
 
-// What lent records are before a call: the index is none of a reading.
-pub(crate) fn unused() -> CusumResult {
-    CusumResult {
-        s_upper: -7.0,
-        s_lower: -9.0,
-        side: Side::Both,
-        index: Observation(9999),
-    }
-}
-
-// The fields of `record`.
-fn fields_of(record: CusumResult) -> Fields {
-    let index = record.index;
-    let side = record.side;
-    Fields {
-        s_upper: floats::to_bits(record.s_upper),
-        s_lower: floats::to_bits(record.s_lower),
-        mark: (charts::side_number(side) as u64) << 32 | index.0 as u64,
-    }
-}
-
-// Compares the fields `got` of the record `i` with the `expected` ones.
-fn match_fields(
-    progress: Progress,
-    i: usize,
-    expected: Fields,
-    got: Fields,
-) -> io::Result<Progress> {
-    progress
-        .matched(0, i, expected.s_upper, got.s_upper)?
-        .matched(1, i, expected.s_lower, got.s_lower)?
-        .matched(2, i, expected.mark, got.mark)
-}
-
-// Compares the record `got`, which the lent ones have at `place`, with what was there before the call.
-pub(crate) fn match_unused(
-    progress: Progress,
-    place: usize,
-    got: CusumResult,
-) -> io::Result<Progress> {
-    let matched = match_fields(progress, place, fields_of(unused()), fields_of(got))?;
-    Ok(matched.counted(KEPT))
-}
-
-// Compares the record `got`, which the lent ones have at `place`, with the one that the input has next
-// if it is `stored`, and otherwise with what was there before the call.
-fn compare_record(
-    progress: Progress,
-    source: &mut Source,
-    place: usize,
-    got: CusumResult,
-    stored: bool,
-) -> io::Result<Progress> {
-    if stored {
-        let block = replay_common::next_block(source, 19)?;
-        if block.whole {
-            let bytes = block.bytes;
-            let expected = Fields {
-                s_upper: number(&bytes, 0, 8),
-                s_lower: number(&bytes, 8, 8),
-                mark: number(&bytes, 16, 1) << 32 | number(&bytes, 17, 2),
-            };
-            let matched = match_fields(progress, place, expected, fields_of(got))?;
-            return Ok(matched.counted(RECORD));
+impl From<CusumResult> for Fields {
+    fn from(record: CusumResult) -> Fields {
+        Fields {
+            s_upper: to_bits(record.s_upper),
+            s_lower: to_bits(record.s_lower),
+            mark: u64::from(u8::from(record.side)) << 32 | record.index.0 as u64,
         }
-        return progress.stopped();
     }
-    match_unused(progress, place, got)
 }
 
-// Compares the lent `records`, of which the first `stored` are stored in the input. Cost: one turn for
-// each lent record.
-fn compare_records(
-    mut progress: Progress,
-    source: &mut Source,
-    records: [CusumResult; 4097],
-    stored: usize,
-) -> io::Result<Progress> {
-    let mut i = 0;
-    while i < 4097 {
-        progress = compare_record(progress, source, i, records[i], i < stored)?;
-        i += 1;
+impl From<[u8; 19]> for Fields {
+    fn from(bytes: [u8; 19]) -> Fields {
+        Fields {
+            s_upper: number(&bytes[..8]),
+            s_lower: number(&bytes[8..16]),
+            mark: u64::from(bytes[16]) << 32 | number(&bytes[17..]),
+        }
     }
-    Ok(progress)
 }
 
-// Compares what `chart` makes of `data` with the refusal of the number `refusal`, or where that is 0
-// with what the input has next, and counts the answers as one of the kind `kind`.
-pub(crate) fn replay_answers(
-    progress: Progress,
-    source: &mut Source,
-    chart: Cusum,
-    data: &[f64],
-    refusal: u64,
-    kind: usize,
-) -> io::Result<Progress> {
-    let next = replay_common::next_count(source, refusal)?;
-    if !next.whole {
-        return progress.stopped();
+// What lent records are before a call: the index is none of a reading.
+pub(crate) const UNUSED: CusumResult = CusumResult {
+    s_upper: -7.0,
+    s_lower: -9.0,
+    side: Side::Both,
+    index: Observation(9999),
+};
+
+impl StoredChart for Stored {
+    type Record = CusumResult;
+
+    type Fields = Fields;
+
+    fn of_case(case: Case) -> Option<Stored> {
+        let [target, sigma, k, h] = case.values.map(|pattern| from_bits(pattern));
+        match case.letter {
+            b'n' => Some(Stored(Cusum::new(target, sigma))),
+            b'p' => Some(Stored(Cusum::with_params(target, sigma, k, h))),
+            _ => None,
+        }
     }
-    let points_stored = next.value as usize;
-    let records_stored = if refusal == 0 { data.len() } else { 0 };
-    let mut points = [replay_common::UNUSED; 4097];
-    let signalled = chart.signal_points(data, &mut points);
-    let lent = lend(chart, data, [unused(); 4097]);
-    let charted = lent.answer;
-    let records = lent.records;
-    let answered = replay_common::match_answers(
-        progress,
-        kind,
-        refusal,
-        points_stored,
-        signalled,
-        records_stored,
-        charted,
-    )?;
-    let compared = replay_common::compare_points(answered, source, &points, points_stored)?;
-    compare_records(compared, source, records, records_stored)
+
+    fn replay_other(progress: Progress, source: &mut Source, case: Case) -> io::Result<Progress> {
+        let [target, sigma, k, h] = case.values.map(|pattern| from_bits(pattern));
+        let chart = Cusum::with_params(target, sigma, k, h);
+        match case.letter {
+            b'u' => replay_run_length(progress, source, chart, Sum::Upper),
+            b'l' => replay_run_length(progress, source, chart, Sum::Lower),
+            _ => progress.stopped(),
+        }
+    }
+
+    fn accepted() -> Stored {
+        Stored(Cusum::new(0.0, 1.0))
+    }
+
+    fn refused() -> Stored {
+        Stored(Cusum::with_params(0.0, 1.0, 0.5, 0.0))
+    }
+
+    fn unused() -> CusumResult {
+        UNUSED
+    }
+
+    fn fields_of(record: CusumResult) -> Fields {
+        Fields::from(record)
+    }
+
+    fn next_fields(source: &mut Source) -> io::Result<Option<Fields>> {
+        Ok(next_block::<19>(source)?.map(Fields::from))
+    }
+
+    fn match_fields(
+        progress: Progress,
+        place: usize,
+        expected: Fields,
+        got: Fields,
+    ) -> io::Result<Progress> {
+        progress
+            .matched(0, place, expected.s_upper, got.s_upper)?
+            .matched(1, place, expected.s_lower, got.s_lower)?
+            .matched(2, place, expected.mark, got.mark)
+    }
+
+    fn analyze(self, readings: &[f64], records: &mut [CusumResult]) -> Result<usize, Refusal> {
+        self.0.analyze(readings, records)
+    }
+
+    fn signal_points(self, readings: &[f64], points: &mut [usize]) -> Result<usize, Refusal> {
+        self.0.signal_points(readings, points)
+    }
 }

@@ -1,25 +1,19 @@
 // Comparing a run length with the stored one.
-use charts::{Heard, Sum};
+use charts::Sum;
 use cusum::Cusum;
 use refusals::Refusal;
-use replay_common::{Progress, Source, float, number};
+use replay_common::{Kind, Progress, Source, Value, float, next_block, number};
 use std::io;
 
-// The kind of a run length.
-const RUN_LENGTH: usize = 5;
-
-// The number of `refusal`, 32 bits higher, and its values below, which for a level are 0 and 0.
-fn refused(refusal: Refusal) -> u64 {
-    let values = refusal.values();
-    refusal.number() << 32 | values.first as u64 | values.second as u64
-}
-
-// `answer` as one number: the reading at which the level is heard, or 0, or a refusal.
-fn heard(answer: Heard) -> u64 {
+// `answer` as one number: the reading at which the level is heard, or 0, or a refusal's number 32 bits
+// higher and its values below, which for a level are 0 and 0.
+fn in_one(answer: Result<Option<usize>, Refusal>) -> u64 {
     match answer {
-        Heard::At(n) => n as u64,
-        Heard::NotHeard => 0,
-        Heard::Refused(r) => refused(r),
+        Ok(heard) => heard.unwrap_or(0) as u64,
+        Err(refusal) => {
+            let (channel, index) = refusal.values().unwrap_or((0, 0));
+            refusal.number() << 32 | channel as u64 | index as u64
+        }
     }
 }
 
@@ -30,13 +24,11 @@ pub(crate) fn replay_run_length(
     chart: Cusum,
     asked: Sum,
 ) -> io::Result<Progress> {
-    let block = replay_common::next_block(source, 11)?;
-    let bytes = block.bytes;
-    if !block.whole {
+    let Some(bytes) = next_block::<11>(source)? else {
         return progress.stopped();
-    }
-    let answer = chart.run_length(float(&bytes, 0), asked);
-    let expected = number(&bytes, 8, 1) << 32 | number(&bytes, 9, 2);
-    let matched = progress.matched(9, 0, expected, heard(answer))?;
-    Ok(matched.counted(RUN_LENGTH))
+    };
+    let answer = chart.run_length(float(&bytes[..8]), asked);
+    let expected = u64::from(bytes[8]) << 32 | number(&bytes[9..]);
+    let matched = progress.matched(Value::RunLength as u64, 0, expected, in_one(answer))?;
+    Ok(matched.counted(Kind::RunLength as usize))
 }

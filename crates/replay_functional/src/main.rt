@@ -3,6 +3,8 @@
 // `stdout` (tests/vectors/functional.rs). They are too large to evaluate in a proof.
 #![tactic(auto)]
 
+ghost use Rattle.std.specs.Prelude.{◌<◌, length};
+
 use functional::partition_functional;
 use std::io;
 use std::io::Stdout;
@@ -20,76 +22,55 @@ fn ramp_at(i: usize, n: usize) -> f64 {
 
 // Fills `run` with ramps of `n` readings each. Cost: one turn for each reading.
 fn ramps(run: &mut [f64], n: usize) {
-    let mut i = 0;
-    while i < run.len() {
-        run[i] = ramp_at(i, n);
-        i += 1;
+    for (i, reading) in run.iter_mut().enumerate() {
+        *reading = ramp_at(i, n);
     }
 }
 
-// Prints the first `count` of `indices`, one a line. Cost: one turn for each line.
-fn print_front(out: &Stdout, indices: &[usize], count: usize) -> io::Result<()> {
-    let mut i = 0;
-    while i < indices.len() {
-        if count <= i {
-            return Ok(());
-        }
-        println!(out; "{}", indices[i])?;
-        i += 1;
+// Prints `predecessors`, one a line. Cost: one turn for each line.
+fn print_each(out: &Stdout, predecessors: &[usize]) -> io::Result<()> {
+    for predecessor in predecessors {
+        println!(out; "{predecessor}")?;
     }
     Ok(())
 }
 
-fn print_flag(out: &Stdout, flag: bool) -> io::Result<()> {
-    if flag {
-        println!(out; "slots enough")
-    } else {
-        println!(out; "slots too few")
-    }
-}
-
-fn one_channel(out: &Stdout) -> io::Result<()> {
-    let mut run = [0.0; 300];
-    let mut floats = [0.0; 1204];
-    let mut indices = [0; 903];
+// Fills `run` with ramps on `channels` channels of `n` readings each, searches it with the lent `floats`
+// and `indices`, and prints whether there were slots enough and the predecessors.
+fn search(
+    out: &Stdout,
+    n: usize,
+    channels: usize,
+    run: &mut [f64],
+    floats: &mut [f64],
+    indices: &mut [usize],
+) -> io::Result<()>
+    requires { n < length indices.old }
+{
     let mut pool = [0.0; 22000];
-    ramps(&mut run, 300);
-    let enough = partition_functional(
-        1000000.0,
-        &run,
-        300,
-        1,
-        2,
-        &mut floats,
-        &mut indices,
-        &mut pool,
-    );
-    print_flag(out, enough)?;
-    print_front(out, &indices, 301)
-}
-
-fn two_channels(out: &Stdout) -> io::Result<()> {
-    let mut run = [0.0; 400];
-    let mut floats = [0.0; 1206];
-    let mut indices = [0; 603];
-    let mut pool = [0.0; 22000];
-    ramps(&mut run, 200);
-    let enough = partition_functional(
-        1000000.0,
-        &run,
-        200,
-        2,
-        2,
-        &mut floats,
-        &mut indices,
-        &mut pool,
-    );
-    print_flag(out, enough)?;
-    print_front(out, &indices, 201)
+    ramps(run, n);
+    let enough = partition_functional(1000000.0, run, n, channels, 2, floats, indices, &mut pool);
+    let found = if enough { "enough" } else { "too few" };
+    println!(out; "slots {found}")?;
+    print_each(out, &indices[..n + 1])
 }
 
 fn main(rt: HostRuntime) -> io::Result<()> {
     let out = rt.stdout();
-    one_channel(&out)?;
-    two_channels(&out)
+    search(
+        &out,
+        300,
+        1,
+        &mut [0.0; 300],
+        &mut [0.0; 1204],
+        &mut [0; 903],
+    )?;
+    search(
+        &out,
+        200,
+        2,
+        &mut [0.0; 400],
+        &mut [0.0; 1206],
+        &mut [0; 603],
+    )
 }

@@ -1,57 +1,46 @@
 // Comparing what a call answered, and what it left in the lent areas, with what is stored.
 use crate::calls::Call;
-use crate::lent::{Found, first_float_unlike, first_index_unlike};
-use refusals::{Answer, Refusal};
+use crate::lent::{Found, first_unlike, spoil};
+use crate::run::Run;
+use refusals::Refusal;
 use replay_common::{Progress, Source, next_number};
 use std::io;
 
-// The kinds of what is compared: see `main`. The others follow from the stored numbers.
-const CUT: usize = 8;
+// The kinds of what is compared: see `main`. The others follow from the stored call.
+#[derive(Clone, Copy)]
+enum Kind {
+    Cut = 8,
+    CutsArea,
+    Cleared,
+    Left,
+}
 
-const CUTS_AREA: usize = 9;
-
-const CLEARED: usize = 10;
-
-const LEFT: usize = 11;
+// The number of an answer among the values.
+const ANSWER: u64 = 12;
 
 // `n` in two bytes: 65,535, which no stored number is, for any number that is not below that.
 fn short(n: usize) -> u64 {
-    if n < 65535 {
-        return n as u64;
-    }
-    65535
-}
-
-// `refusal` as it is stored, in one number.
-fn refused(refusal: Refusal) -> u64 {
-    let values = refusal.values();
-    refusal.number() << 48 | short(values.first) << 32 | short(values.second) << 16
+    (n as u64).min(65535)
 }
 
 // `answer` as it is stored, in one number.
-fn given(answer: Answer) -> u64 {
+fn in_one(answer: Result<usize, Refusal>) -> u64 {
     match answer {
-        Answer::Count(cuts) => short(cuts),
-        Answer::Refused(refusal) => refused(refusal),
+        Ok(cuts) => short(cuts),
+        Err(refusal) => {
+            let (channel, index) = refusal.values().unwrap_or((0, 0));
+            refusal.number() << 48 | short(channel) << 32 | short(index) << 16
+        }
     }
 }
 
-// The kind of a stored outcome: an answer by the cost and the penalty of `settings`, or the refusal of
-// the number `refusal`.
-fn outcome(settings: u64, refusal: u64) -> usize {
-    if refusal == 0 {
-        return (4 + settings / 65536 % 2 * 2 + settings / 256 % 2) as usize;
-    }
-    (11 + refusal % 13) as usize
-}
-
-// Compares what was `found` with what was to be found, and counts it as one of the kind `kind`.
-fn compared(progress: Progress, kind: usize, found: Found) -> io::Result<Progress> {
-    if found.expected == found.got {
-        return Ok(progress.tallied(kind, 0));
-    }
+// Counts something as one of the kind `kind`, which differs where a difference was `found`.
+fn compared(progress: Progress, kind: Kind, found: Option<Found>) -> io::Result<Progress> {
+    let Some(found) = found else {
+        return Ok(progress.tallied(kind as usize, false));
+    };
     let matched = progress.matched(kind as u64, found.place, found.expected, found.got)?;
-    Ok(matched.tallied(kind, 1))
+    Ok(matched.tallied(kind as usize, true))
 }
 
 // Compares the cut `got`, with the index `place` among the cuts, with the one that the input has next.
@@ -61,16 +50,21 @@ fn match_cut(
     place: usize,
     got: usize,
 ) -> io::Result<Progress> {
-    let next = next_number(source, 2)?;
-    if next.whole {
-        let found = Found {
-            place,
-            expected: next.value,
-            got: got as u64,
-        };
-        return compared(progress, CUT, found);
-    }
-    progress.stopped()
+    let Some(expected) = next_number::<2>(source)? else {
+        return progress.stopped();
+    };
+    let got = got as u64;
+    let found = Found {
+        place,
+        expected,
+        got,
+    };
+    let differs = expected != got;
+    compared(
+        progress,
+        Kind::Cut,
+        if differs { Some(found) } else { None },
+    )
 }
 
 // Compares the cuts area: `cuts` has the `stored` cuts of the input at its front, and the rest is to be
@@ -84,12 +78,10 @@ fn match_cuts(
     if cuts.len() < stored {
         return progress.stopped();
     }
-    let mut i = 0;
-    while i < stored {
-        progress = match_cut(progress, source, i, cuts[i])?;
-        i += 1;
+    for (place, got) in cuts[..stored].iter().enumerate() {
+        progress = match_cut(progress, source, place, *got)?;
     }
-    compared(progress, CUTS_AREA, first_index_unlike(cuts, stored, false))
+    compared(progress, Kind::CutsArea, first_unlike(cuts, stored, false))
 }
 
 // Compares the work areas `floats`, `indices` and `pool`: all of each is to be zero if `cleared`, and as
@@ -101,30 +93,36 @@ fn match_areas(
     indices: &[usize],
     pool: &[f64],
 ) -> io::Result<Progress> {
-    let kind = if cleared { CLEARED } else { LEFT };
-    let first = compared(progress, kind, first_float_unlike(floats, cleared))?;
-    let second = compared(first, kind, first_index_unlike(indices, 0, cleared))?;
-    compared(second, kind, first_float_unlike(pool, cleared))
+    let kind = if cleared { Kind::Cleared } else { Kind::Left };
+    let first = compared(progress, kind, first_unlike(floats, 0, cleared))?;
+    let second = compared(first, kind, first_unlike(indices, 0, cleared))?;
+    compared(second, kind, first_unlike(pool, 0, cleared))
 }
 
-// Compares all that is stored of `call` with the answer `searched`, and with `cuts`, `floats`, `indices`
-// and `pool` as the call left them. Refusals before 9 change no work area.
-pub(crate) fn match_all(
+// Fills the lent areas with junk, searches `run` in them as `call` says, and compares all that is stored of
+// the call. Refusals before 9 change no work area.
+pub(crate) fn replay_call(
     progress: Progress,
     source: &mut Source,
     call: Call,
-    answer: Answer,
-    cuts: &[usize],
-    floats: &[f64],
-    indices: &[usize],
-    pool: &[f64],
+    run: &Run,
+    cuts: &mut [usize],
+    floats: &mut [f64],
+    indices: &mut [usize],
+    pool: &mut [f64],
 ) -> io::Result<Progress> {
-    let stored = call.stored;
-    let refusal = stored >> 48;
-    let cleared = (refusal == 0) | (refusal == 9);
-    let first = progress.begun().matched(12, 0, stored, given(answer))?;
-    let second = match_cuts(first, source, (stored % 65536) as usize, cuts)?;
+    spoil(cuts);
+    spoil(floats);
+    spoil(indices);
+    spoil(pool);
+    let answer = call.search(run.readings(), run.lengths(), cuts, floats, indices, pool);
+    let cleared = matches!(call.refusal(), 0 | 9);
+    let stored = (call.stored % 65536) as usize;
+    let first = progress
+        .begun()
+        .matched(ANSWER, 0, call.stored, in_one(answer))?;
+    let second = match_cuts(first, source, stored, cuts)?;
     let third = match_areas(second, cleared, floats, indices, pool)?;
-    let tallied = third.tallied((call.settings >> 24) as usize, third.unlike);
-    Ok(tallied.counted(outcome(call.settings, refusal)))
+    let tallied = third.tallied(call.function as usize, third.unlike);
+    Ok(tallied.counted(call.outcome()))
 }

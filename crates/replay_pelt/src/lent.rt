@@ -1,15 +1,10 @@
-// The areas: reading the run from the source, what the lent ones hold before a call, and the first
-// index of one that a call left otherwise than it should.
+// The lent areas: what they hold before a call, and the first number of one that a call left otherwise
+// than it should.
 use floats::{from_bits, to_bits};
-use replay_common::{Source, Stored, next_number};
-use std::io;
-use std::num::nearest_u64_to_f64;
+use std::num::nearest_usize_to_f64;
 
-// The areas have room for 8 channels of 4,096 readings and for 320 slots, and some to spare.
-pub(crate) const READINGS: usize = 32776;
-
-pub(crate) const CHANNELS: usize = 16;
-
+// The most that is lent of each area: room for 8 channels of 4,096 readings and for 320 slots, and some
+// to spare.
 pub(crate) const CUTS: usize = 2064;
 
 pub(crate) const FLOATS: usize = 73776;
@@ -18,82 +13,59 @@ pub(crate) const INDICES: usize = 12312;
 
 pub(crate) const POOL: usize = 64000;
 
-// Reads the next readings, their number and each of them, to the front of `run`, and returns their
-// number. Cost: one turn for each.
-pub(crate) fn next_run(source: &mut Source, run: &mut [f64]) -> io::Result<Stored> {
-    let mut count = next_number(source, 2)?;
-    let readings = count.value as usize;
-    count.whole = count.whole & (readings <= run.len());
-    let mut i = 0;
-    while i < run.len() {
-        if readings <= i {
-            return Ok(count);
+// What stands in an area: a float or an index.
+pub(crate) trait Stored: Copy {
+    // What stands at `place` after a call that has `cleared` its area, and with `cleared` false before a
+    // call and after one that leaves the area.
+    fn left(cleared: bool, place: usize) -> Self;
+
+    fn of_number(number: u64) -> Self;
+
+    fn number(self) -> u64;
+}
+
+impl Stored for f64 {
+    // Below 0 before a call, so that a search that reads it takes it for a low cost.
+    fn left(cleared: bool, place: usize) -> f64 {
+        if cleared {
+            0.0
+        } else {
+            -0.5 - nearest_usize_to_f64(place)
         }
-        let next = next_number(source, 8)?;
-        run[i] = from_bits(next.value);
-        count.whole = count.whole & next.whole;
-        i += 1;
     }
-    Ok(count)
-}
 
-// Reads the next lengths, their number and each of them, to the front of `lengths`, and returns their
-// number. Cost: one turn for each.
-pub(crate) fn next_lengths(source: &mut Source, lengths: &mut [usize]) -> io::Result<Stored> {
-    let mut count = next_number(source, 1)?;
-    let channels = count.value as usize;
-    count.whole = count.whole & (channels <= lengths.len());
-    let mut i = 0;
-    while i < lengths.len() {
-        if channels <= i {
-            return Ok(count);
-        }
-        let next = next_number(source, 8)?;
-        lengths[i] = next.value as usize;
-        count.whole = count.whole & next.whole;
-        i += 1;
+    fn of_number(number: u64) -> f64 {
+        from_bits(number)
     }
-    Ok(count)
-}
 
-// What the float with the index `place` is to be after a call that has `cleared` its area, +0; and with
-// `cleared` false before a call and after one that leaves the area: below 0, so that a search that reads
-// it takes it for a low cost.
-fn float_left(cleared: bool, place: usize) -> f64 {
-    if cleared {
-        return 0.0;
-    }
-    -0.5 - nearest_u64_to_f64(place as u64)
-}
-
-// What the index or the cut with the index `place` is to be, likewise: 0 if `cleared`, and otherwise no
-// index of a reading.
-fn index_left(cleared: bool, place: usize) -> usize {
-    if cleared {
-        return 0;
-    }
-    place % 1000 + 9000
-}
-
-// Fills `area` with what floats are before a call. Cost: one turn for each float.
-pub(crate) fn spoil_floats(area: &mut [f64]) {
-    let mut i = 0;
-    while i < area.len() {
-        area[i] = float_left(false, i);
-        i += 1;
+    fn number(self) -> u64 {
+        to_bits(self)
     }
 }
 
-// Fills `area` with what indices are before a call. Cost: one turn for each index.
-pub(crate) fn spoil_indices(area: &mut [usize]) {
-    let mut i = 0;
-    while i < area.len() {
-        area[i] = index_left(false, i);
-        i += 1;
+impl Stored for usize {
+    // No index of a reading before a call.
+    fn left(cleared: bool, place: usize) -> usize {
+        if cleared { 0 } else { place % 1000 + 9000 }
+    }
+
+    fn of_number(number: u64) -> usize {
+        number as usize
+    }
+
+    fn number(self) -> u64 {
+        self as u64
     }
 }
 
-// What was found at the index `place` of an area, and what was to be found there.
+// Fills `area` with what stands there before a call. Cost: one turn for each place.
+pub(crate) fn spoil<T: Stored>(area: &mut [T]) {
+    for (place, lent) in area.iter_mut().enumerate() {
+        *lent = T::left(false, place);
+    }
+}
+
+// A difference: what was found at the index `place` of an area, and what was to be found there.
 #[derive(Clone, Copy)]
 pub(crate) struct Found {
     pub place: usize,
@@ -101,47 +73,19 @@ pub(crate) struct Found {
     pub got: u64,
 }
 
-// The first index of `area` whose float is not as it is to be after a call, `cleared` or not; where
-// there is none, the area's length. Cost: one turn for each float.
-pub(crate) fn first_float_unlike(area: &[f64], cleared: bool) -> Found {
-    let mut place = 0;
-    while place < area.len() {
-        let expected = to_bits(float_left(cleared, place));
-        let got = to_bits(area[place]);
+// The first place of `area`, not below `from`, that is not as it is to be after a call, `cleared` or
+// not. Cost: one turn for each place.
+pub(crate) fn first_unlike<T: Stored>(area: &[T], from: usize, cleared: bool) -> Option<Found> {
+    for (place, lent) in area.iter().enumerate().skip(from) {
+        let expected = T::left(cleared, place).number();
+        let got = lent.number();
         if expected != got {
-            return Found {
+            return Some(Found {
                 place,
                 expected,
                 got,
-            };
+            });
         }
-        place += 1;
     }
-    Found {
-        place,
-        expected: 0,
-        got: 0,
-    }
-}
-
-// The first index of `area`, not below `from`, whose index is not as it is to be after a call, `cleared`
-// or not; where there is none, the area's length. Cost: one turn for each index.
-pub(crate) fn first_index_unlike(area: &[usize], from: usize, cleared: bool) -> Found {
-    let mut place = from;
-    while place < area.len() {
-        let expected = index_left(cleared, place);
-        if expected != area[place] {
-            return Found {
-                place,
-                expected: expected as u64,
-                got: area[place] as u64,
-            };
-        }
-        place += 1;
-    }
-    Found {
-        place,
-        expected: 0,
-        got: 0,
-    }
+    None
 }

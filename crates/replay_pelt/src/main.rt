@@ -22,54 +22,95 @@
 mod answers;
 mod calls;
 mod lent;
-mod state;
+mod run;
 
-use calls::{next_call, replay_search, room_of};
-use lent::{CHANNELS, CUTS, FLOATS, INDICES, POOL, READINGS};
-use replay_common::{Progress, Source};
-use state::{State, next_other};
+use answers::replay_call;
+use calls::Call;
+use lent::{CUTS, FLOATS, INDICES, POOL};
+use replay_common::{Progress, Source, next_block, replay_cases};
+use run::Run;
 use std::io;
-use std::io::Stdout;
 
-// Replays the records of `source` up to the last: a call, or what stands between calls. The count ends
-// the loop, since nothing says that the input does.
-fn replay_all(out: Stdout, source: &mut Source) -> io::Result<Progress> {
-    let mut run = [0.0; READINGS];
-    let mut lengths = [0; CHANNELS];
-    let mut cuts = [0; CUTS];
-    let mut floats = [0.0; FLOATS];
-    let mut indices = [0; INDICES];
-    let mut pool = [0.0; POOL];
-    let mut state = State::new(out);
-    let mut turn = 0u64;
-    while turn < u64::MAX {
-        turn += 1;
-        let progress = state.progress;
-        if !progress.more {
-            return Ok(progress);
-        }
-        let call = next_call(source)?;
-        let room = room_of(call, state.readings, state.channels);
-        if room.fits {
-            state.progress = replay_search(
-                progress,
-                source,
-                call,
-                &run[..room.readings],
-                &lengths[..room.channels],
-                &mut cuts[..room.cuts],
-                &mut floats[..room.floats],
-                &mut indices[..room.indices],
-                &mut pool[..room.pool],
-            )?;
-        } else {
-            state = next_other(state, source, call.letter, &mut run, &mut lengths)?;
-        }
+// The call that `source` has next, if it is one.
+fn next_call(source: &mut Source) -> io::Result<Option<Call>> {
+    let Some(bytes) = next_block::<39>(source)? else {
+        return Ok(None);
+    };
+    Ok(Call::try_from(bytes).ok())
+}
+
+// Replays what `source` has next behind a `letter` that is no call's: readings or lengths, which go to
+// `run`, or the end.
+fn replay_other(
+    progress: Progress,
+    source: &mut Source,
+    letter: u8,
+    run: &mut Run,
+) -> io::Result<Progress> {
+    let whole = match letter {
+        b'r' => run.next_readings(source)?,
+        b'l' => run.next_lengths(source)?,
+        b'e' => return Ok(progress.ended()),
+        _ => false,
+    };
+    if whole {
+        Ok(progress)
+    } else {
+        progress.stopped()
     }
-    Ok(state.progress)
+}
+
+// Replays the record that `source` has next: a call, in the lent areas, or what stands between calls.
+// The areas are no struct: the proof that Rattle makes lends one field of a struct at a time.
+fn replay_record(
+    progress: Progress,
+    source: &mut Source,
+    run: &mut Run,
+    cuts: &mut [usize; CUTS],
+    floats: &mut [f64; FLOATS],
+    indices: &mut [usize; INDICES],
+    pool: &mut [f64; POOL],
+) -> io::Result<Progress> {
+    let Some(first) = next_block::<1>(source)? else {
+        return progress.stopped();
+    };
+    let letter = first[0];
+    if letter != b'c' {
+        return replay_other(progress, source, letter, run);
+    }
+    let Some(call) = next_call(source)? else {
+        return progress.stopped();
+    };
+    let room = call.room;
+    replay_call(
+        progress,
+        source,
+        call,
+        run,
+        &mut cuts[..room.cuts],
+        &mut floats[..room.floats],
+        &mut indices[..room.indices],
+        &mut pool[..room.pool],
+    )
 }
 
 fn main(rt: HostRuntime) -> io::Result<()> {
     let mut source = Source::new(&rt)?;
-    replay_all(rt.stdout(), &mut source)?.report()
+    let mut run = Run::new();
+    let mut cuts = [0; CUTS];
+    let mut floats = [0.0; FLOATS];
+    let mut indices = [0; INDICES];
+    let mut pool = [0.0; POOL];
+    let replayed = replay_cases(rt.stdout(), &mut source, |progress, source| {
+        replay_record(
+            progress,
+            source,
+            &mut run,
+            &mut cuts,
+            &mut floats,
+            &mut indices,
+            &mut pool,
+        )
+    })?;
+    replayed.report()
 }

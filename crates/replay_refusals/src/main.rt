@@ -5,31 +5,29 @@
 use refusals::Refusal;
 use std::io;
 
-// Prints the number of `refusal` in a line.
-fn print(rt: &HostRuntime, refusal: Refusal) -> io::Result<()> {
-    println!(rt; "{}", refusal.number())
-}
-
 fn main(rt: HostRuntime) -> io::Result<()> {
-    print(&rt, Refusal::Penalty)?;
-    print(&rt, Refusal::MinLen)?;
-    print(&rt, Refusal::Channels)?;
-    print(&rt, Refusal::Shape)?;
-    print(&rt, Refusal::Unequal)?;
-    print(&rt, Refusal::TooLong)?;
-    print(&rt, Refusal::Room)?;
-    print(
-        &rt,
+    let refusals = [
+        Refusal::Penalty,
+        Refusal::MinLen,
+        Refusal::Channels,
+        Refusal::Shape,
+        Refusal::Unequal,
+        Refusal::TooLong,
+        Refusal::Room,
         Refusal::NonFinite {
             channel: 0,
             index: 1,
         },
-    )?;
-    print(&rt, Refusal::Pool)?;
-    print(&rt, Refusal::Form)?;
-    print(&rt, Refusal::Piece)?;
-    print(&rt, Refusal::Target)?;
-    print(&rt, Refusal::Sigma)?;
-    print(&rt, Refusal::Weight)?;
-    print(&rt, Refusal::Bound)
+        Refusal::Pool,
+        Refusal::Form,
+        Refusal::Piece,
+        Refusal::Target,
+        Refusal::Sigma,
+        Refusal::Weight,
+        Refusal::Bound,
+    ];
+    for refusal in refusals {
+        println!(rt; "{}", refusal.number())?;
+    }
+    Ok(())
 }

@@ -4,7 +4,7 @@
 // differ. Values come and go as bit patterns, by `floats::from_bits` and `floats::to_bits`.
 //
 // The kinds are 0 for pieces, 1 for penalties, 2 for noise variances, 3 for sums of them, 4 for lent
-// floats, and 5 for segments of channels. The values of each are shown by these numbers:
+// floats, and 5 for segments of channels. The values of each are shown by these numbers (`shown`):
 //
 //     0 to 2    of a piece its refusal and length, its mean and its spread
 //     3 to 5    of its channel the mean, the lowest and the highest value
@@ -22,48 +22,32 @@ mod penalties;
 mod pieces;
 mod runs;
 mod segments;
+mod shown;
 mod variances;
 
 use penalties::replay_penalty;
 use pieces::replay_piece;
-use replay_common::{Block, Progress, Source};
+use replay_common::{Case, Progress, Source, next_block, replay_cases};
 use runs::replay_run;
 use std::io;
-use std::io::Stdout;
 
-// Replays the case whose first 33 bytes are `block`.
-fn replay_case(progress: Progress, source: &mut Source, block: Block) -> io::Result<Progress> {
-    let bytes = block.bytes;
+// Replays the case that `source` has next. An `e` is the last.
+fn replay_case(progress: Progress, source: &mut Source) -> io::Result<Progress> {
     let begun = progress.begun();
-    if !block.whole {
+    let Some(bytes) = next_block::<33>(source)? else {
         return begun.stopped();
-    }
-    match bytes[0] {
-        b's' => replay_piece(begun, source, &bytes),
-        b'q' => replay_penalty(begun, source, &bytes),
-        b'r' => replay_run(begun, source, &bytes),
-        b'e' => Ok(progress.ended()),
+    };
+    let Case { letter, values } = Case::from(bytes);
+    match letter {
+        b's' => replay_piece(begun, source, values),
+        b'q' => replay_penalty(begun, source, values),
+        b'r' => replay_run(begun, source, values),
+        b'e' => Ok(begun.ended()),
         _ => begun.stopped(),
     }
 }
 
-// Replays the cases of `source` up to the last, which is an `e`. The count ends the loop, since nothing
-// says that the input does.
-fn replay_all(out: Stdout, source: &mut Source) -> io::Result<Progress> {
-    let mut progress = Progress::new(out);
-    let mut turn = 0u64;
-    while turn < u64::MAX {
-        let block = replay_common::next_block(source, 33)?;
-        progress = replay_case(progress, source, block)?;
-        if !progress.more {
-            return Ok(progress);
-        }
-        turn += 1;
-    }
-    Ok(progress)
-}
-
 fn main(rt: HostRuntime) -> io::Result<()> {
     let mut source = Source::new(&rt)?;
-    replay_all(rt.stdout(), &mut source)?.report()
+    replay_cases(rt.stdout(), &mut source, replay_case)?.report()
 }

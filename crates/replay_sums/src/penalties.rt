@@ -1,42 +1,66 @@
 // Comparing penalties with the stored ones.
+ghost use Rattle.std.specs.Prelude.{◌≤◌, length};
+
+use crate::shown::{Kind, Value};
 use costs::{CostFunction, Penalty, resolve_penalty};
-use replay_common::{Progress, Source, float, next_block, number};
+use replay_common::{Progress, Source, next_block, number};
 use std::io;
 
-// The kind of a penalty.
-const PENALTY: usize = 1;
-
-// Compares the three penalties of the case with the first 33 bytes `bytes` and those that follow,
-// `rest`, where the noise variances add up to `noise`.
-pub(crate) fn match_penalties(
-    progress: Progress,
-    bytes: &[u8; 33],
-    rest: &[u8; 33],
-    noise: f64,
-) -> io::Result<Progress> {
-    let custom = Penalty::Custom(float(bytes, 1));
-    let n = number(rest, 0, 2) as usize;
-    let channels = number(rest, 2, 2) as usize;
-    let l2 = resolve_penalty(Penalty::Bic, CostFunction::L2, n, channels, noise);
-    let normal = resolve_penalty(Penalty::Bic, CostFunction::Normal, n, channels, noise);
-    let own = resolve_penalty(custom, CostFunction::L2, n, channels, noise);
-    let matched = progress
-        .matched_float(12, n, bytes, 17, l2)?
-        .matched_float(13, n, bytes, 25, normal)?
-        .matched_float(14, n, rest, 4, own)?;
-    Ok(matched.counted(PENALTY))
+// What is stored of the penalties of `channels` channels with `n` readings each: the sum of the noise
+// variances that they go by, a custom value, and the three penalties, as bit patterns.
+#[derive(Clone, Copy)]
+pub(crate) struct Penalties {
+    pub n: usize,
+    pub channels: usize,
+    pub custom: u64,
+    pub noise: u64,
+    pub l2: u64,
+    pub normal: u64,
+    pub own: u64,
 }
 
-// Replays the penalty whose first 33 bytes are `bytes`.
+impl Penalties {
+    // What the four `values` of a case and the first 12 bytes of `rest` say.
+    pub(crate) fn new(values: [u64; 4], rest: &[u8]) -> Penalties
+        requires { 12 ≤ length rest.now }
+    {
+        let [custom, noise, l2, normal] = values;
+        Penalties {
+            n: number(&rest[..2]) as usize,
+            channels: number(&rest[2..4]) as usize,
+            custom,
+            noise,
+            l2,
+            normal,
+            own: number(&rest[4..12]),
+        }
+    }
+
+    // Compares the three penalties where the noise variances add up to `noise`.
+    pub(crate) fn compare(self, progress: Progress, noise: f64) -> io::Result<Progress> {
+        let n = self.n;
+        let channels = self.channels;
+        let custom = Penalty::Custom(floats::from_bits(self.custom));
+        let l2 = resolve_penalty(Penalty::Bic, CostFunction::L2, n, channels, noise);
+        let normal = resolve_penalty(Penalty::Bic, CostFunction::Normal, n, channels, noise);
+        let own = resolve_penalty(custom, CostFunction::L2, n, channels, noise);
+        let matched = progress
+            .matched_float(Value::L2Penalty as u64, n, self.l2, l2)?
+            .matched_float(Value::NormalPenalty as u64, n, self.normal, normal)?
+            .matched_float(Value::CustomPenalty as u64, n, self.own, own)?;
+        Ok(matched.counted(Kind::Penalty as usize))
+    }
+}
+
+// Replays the penalty whose case has the four `values`.
 pub(crate) fn replay_penalty(
     progress: Progress,
     source: &mut Source,
-    bytes: &[u8; 33],
+    values: [u64; 4],
 ) -> io::Result<Progress> {
-    let block = next_block(source, 12)?;
-    let rest = block.bytes;
-    if !block.whole {
+    let Some(rest) = next_block::<12>(source)? else {
         return progress.stopped();
-    }
-    match_penalties(progress, bytes, &rest, float(bytes, 9))
+    };
+    let penalties = Penalties::new(values, &rest);
+    penalties.compare(progress, floats::from_bits(penalties.noise))
 }

@@ -2,19 +2,19 @@
 // that is lent to them.
 ghost use Rattle.std.specs.Prelude.{◌≤◌};
 
-use crate::penalties::match_penalties;
+use crate::penalties::Penalties;
+use crate::shown::{Kind, Value};
 use floats::to_bits;
 use noise::{noise_sum, noise_variance};
 use readings::channel_of;
-use replay_common::{Progress, Source, next_number, number};
+use replay_common::{Progress, Source, next_number};
 use std::io;
 
-// The kinds of what is compared here.
-const VARIANCE: usize = 2;
+// The most floats that are lent: room for the differences of 4,096 readings, and some to spare.
+pub(crate) const MOST: usize = 4104;
 
-const SUM: usize = 3;
-
-const PLACE: usize = 4;
+// What each lent float is before a call.
+const UNUSED: f64 = 9999.0;
 
 // An area of `size` floats is lent, the differences stand in it at `place`, and `cleared` of them are +0
 // after the call.
@@ -23,44 +23,24 @@ pub(crate) struct Room {
     pub place: usize,
     pub size: usize,
     pub cleared: usize,
+    ghost fits: { size ≤ 4104 },
 }
 
-// What each lent float is before a call.
-fn unused() -> f64 {
-    9999.0
-}
-
-// The bit pattern of what the float with the index `place` is to be after a call, as `room` says.
-fn left_at(room: Room, place: usize) -> u64 {
-    if room.place <= place {
-        if place - room.place < room.cleared {
-            return 0;
+impl Room {
+    // The bit pattern of what the float with the index `place` is to be after a call.
+    fn left_at(self, place: usize) -> u64 {
+        match place.checked_sub(self.place) {
+            Some(behind) if behind < self.cleared => 0,
+            _ => to_bits(UNUSED),
         }
     }
-    to_bits(unused())
-}
-
-// How many floats of `area` are +0. Cost: one turn for each float.
-fn zeros_of(area: &[f64]) -> usize {
-    let mut zeros = 0;
-    let mut i = 0;
-    while i < area.len() {
-        let pattern = to_bits(area[i]);
-        i += 1;
-        if pattern == 0 {
-            zeros += 1;
-        }
-    }
-    zeros
 }
 
 // Compares each float of `area` after a call with what `room` says. Cost: one turn for each float.
 fn match_places(mut progress: Progress, room: Room, area: &[f64]) -> io::Result<Progress> {
-    let mut i = 0;
-    while i < area.len() {
-        let matched = progress.matched(18, i, left_at(room, i), to_bits(area[i]))?;
-        progress = matched.counted(PLACE);
-        i += 1;
+    for (place, got) in area.iter().enumerate() {
+        let matched = progress.matched_float(Value::Lent as u64, place, room.left_at(place), *got)?;
+        progress = matched.counted(Kind::Lent as usize);
     }
     Ok(progress)
 }
@@ -70,87 +50,55 @@ fn match_places(mut progress: Progress, room: Room, area: &[f64]) -> io::Result<
 // behind the last.
 fn match_area(
     progress: Progress,
-    kind: usize,
+    kind: Kind,
     index: usize,
     room: Room,
     area: &[f64],
 ) -> io::Result<Progress> {
-    let zeros = zeros_of(area) as u64;
-    let matched = progress.matched(17, index, room.cleared as u64, zeros)?;
-    match_places(matched.counted(kind), room, area)
+    let zeros = area.iter().filter(|got| to_bits(**got) == 0).count();
+    let matched = progress.matched(
+        Value::Cleared as u64,
+        index,
+        room.cleared as u64,
+        zeros as u64,
+    )?;
+    match_places(matched.counted(kind as usize), room, area)
 }
 
-// Compares the noise variance of `channel`, the channel `k`, worked out in the unused `area` where
-// `room` says, with `expected`.
+// Compares the sum of the noise variances of `run`, worked out in an unused area where `room` says, and
+// the `penalties` that it gives with the stored ones.
+pub(crate) fn match_sum(
+    progress: Progress,
+    run: &[f64],
+    penalties: Penalties,
+    room: Room,
+) -> io::Result<Progress> {
+    let n = penalties.n;
+    let mut floats = [UNUSED; MOST];
+    let area = &mut floats[..room.size];
+    let sum = noise_sum(run, n, penalties.channels, area, room.place);
+    let matched = progress.matched_float(Value::VarianceSum as u64, n, penalties.noise, sum)?;
+    let left = match_area(matched, Kind::VarianceSum, n, room, area)?;
+    penalties.compare(left, sum)
+}
+
+// Compares the noise variance of `channel`, the channel `k`, worked out in an unused area where `room`
+// says, with the one that the input has next.
 fn match_variance(
-    progress: Progress,
-    channel: &[f64],
-    k: usize,
-    room: Room,
-    expected: u64,
-    area: &mut [f64],
-) -> io::Result<Progress> {
-    let variance = noise_variance(channel, area, room.place);
-    let matched = progress.matched(15, k, expected, to_bits(variance))?;
-    match_area(matched, VARIANCE, k, room, area)
-}
-
-// Compares the sum of the noise variances of `run`, worked out in the unused `area` where `room` says,
-// and the penalties that it gives with the stored ones of `bytes` and `rest`.
-fn match_sum(
-    progress: Progress,
-    bytes: &[u8; 33],
-    rest: &[u8; 33],
-    run: &[f64],
-    room: Room,
-    area: &mut [f64],
-) -> io::Result<Progress> {
-    let n = number(rest, 0, 2) as usize;
-    let channels = number(rest, 2, 2) as usize;
-    let sum = noise_sum(run, n, channels, area, room.place);
-    let matched = progress.matched_float(16, n, bytes, 9, sum)?;
-    match_penalties(match_area(matched, SUM, n, room, area)?, bytes, rest, sum)
-}
-
-// The same of `bytes`, `rest`, `run` and `room` with an area of its own, which has room for the
-// differences of 4,096 readings, and some to spare.
-pub(crate) fn lend_for_sum(
-    progress: Progress,
-    bytes: &[u8; 33],
-    rest: &[u8; 33],
-    run: &[f64],
-    room: Room,
-) -> io::Result<Progress>
-    requires { room.size ≤ 4104 }
-{
-    let mut area = [unused(); 4104];
-    match_sum(progress, bytes, rest, run, room, &mut area[..room.size])
-}
-
-// Compares the noise variance of `channel`, the channel `k`, with the one that the input has next. The
-// area, which `room` describes, is unused again.
-fn next_variance(
     progress: Progress,
     source: &mut Source,
     channel: &[f64],
     k: usize,
     room: Room,
-) -> io::Result<Progress>
-    requires { room.size ≤ 4104 }
-{
-    let next = next_number(source, 8)?;
-    if !next.whole {
+) -> io::Result<Progress> {
+    let Some(expected) = next_number::<8>(source)? else {
         return progress.stopped();
-    }
-    let mut area = [unused(); 4104];
-    match_variance(
-        progress,
-        channel,
-        k,
-        room,
-        next.value,
-        &mut area[..room.size],
-    )
+    };
+    let mut floats = [UNUSED; MOST];
+    let area = &mut floats[..room.size];
+    let variance = noise_variance(channel, area, room.place);
+    let matched = progress.matched_float(Value::Variance as u64, k, expected, variance)?;
+    match_area(matched, Kind::Variance, k, room, area)
 }
 
 // Compares the noise variances of the `channels` channels of `run`, of `n` readings each, with those
@@ -162,14 +110,10 @@ pub(crate) fn match_variances(
     n: usize,
     channels: usize,
     room: Room,
-) -> io::Result<Progress>
-    requires { room.size ≤ 4104 }
-{
-    let mut k = 0;
-    while k < channels {
+) -> io::Result<Progress> {
+    for k in 0..channels {
         let channel = channel_of(run, channels, n, k);
-        progress = next_variance(progress, source, channel, k, room)?;
-        k += 1;
+        progress = match_variance(progress, source, channel, k, room)?;
     }
     Ok(progress)
 }

@@ -14,11 +14,10 @@ use Rattle.logic.proofs.Laws.{clash}
 use Rattle.floats.specs.Numbers.{◌≤ᶠ◌, +0}
 use Rattle.refusals.specs.Limits.{max_channels, max_readings}
 use Rattle.refusals.proofs.TriedLaws.{tried_passed}
-use Rattle.refusals.specs.declared.Answer.{Answer}
+use Rattle.std.specs.Prelude.{Result, Ok, Err}
 use Rattle.refusals.specs.declared.Refusal.{Refusal}
 use Rattle.areas.specs.Parts.{part}
-use Rattle.readings.specs.Shape.{first_length}
-use Rattle.readings.specs.declared.Shaped.{Shaped}
+use Rattle.readings.specs.declared.Channels.{Channels}
 use Rattle.costs.specs.declared.CostFunction.{CostFunction}
 use Rattle.costs.specs.declared.Penalty.{Penalty}
 use Rattle.costs.specs.declared.CostFunction.TheVariants.{L2, Normal}
@@ -42,7 +41,7 @@ use Rattle.search_answer.specs.Inner.Admitted.{Admitted}
 use Rattle.search_answer.specs.Search.{penalty_value, pruned_cuts, functional_cuts, takes_functional, cuts_by, cuts_with, cuts_found}
 use Rattle.search_answer.specs.Outcome.{Areas, areas, found_answer, cuts_left, zeros, found_outcome, unchanged, outcome_by, tests_of, found_in, detected}
 use Rattle.search.specs.Inner.Held.{asks_noise, CutBack}
-use Rattle.search_answer.proofs.AdmissionLaws.{channels_passed, passed_channels, refused_tried}
+use Rattle.search_answer.proofs.AdmissionLaws.{answered_passed, answered_channels, refused_tried}
 
 -- ---- an admitted search, of `m` readings or more, fits
 pub admitted_fits_search : {run n k m cuts floats indices : ℕ} → Admitted run n k m cuts floats indices → m ≤ n → search_fits run n k m floats indices ≡ true
@@ -117,21 +116,21 @@ functional_few Normal k e = absurd (false≢true e)
 
 -- ---- what is left
 -- the outcome by its parts
-outcome_is : (found : Option (List ℕ)) (before : Areas) {cuts' : List ℕ} {floats' : List Float} {indices' : List ℕ} {pool' : List Float} {r : Answer}
+outcome_is : (found : Option (List ℕ)) (before : Areas) {cuts' : List ℕ} {floats' : List Float} {indices' : List ℕ} {pool' : List Float} {r : Result ℕ Refusal}
     → r ≡ found_answer found → cuts' ≡ cuts_left found before.cuts → floats' ≡ zeros +0 before.floats → indices' ≡ zeros 0 before.indices → pool' ≡ zeros +0 before.pool
-    → ◌≡◌ {A = Answer × Areas} (r, areas cuts' floats' indices' pool') (found_outcome found before)
+    → ◌≡◌ {A = Result ℕ Refusal × Areas} (r, areas cuts' floats' indices' pool') (found_outcome found before)
 unfolding found_outcome
 outcome_is found before e c f i q = rw (e, c, f, i, q) refl
 
-pub left_none : (before : Areas) {floats' : List Float} {indices' : List ℕ} {pool' : List Float} {r : Answer} → r ≡ Answer.Count 0 → floats' ≡ zeros +0 before.floats → indices' ≡ zeros 0 before.indices → pool' ≡ zeros +0 before.pool
-    → ◌≡◌ {A = Answer × Areas} (r, areas before.cuts floats' indices' pool') (found_outcome (some []) before)
-left_none before e f i q = outcome_is (some []) before e refl f i q
+pub left_none : (before : Areas) {floats' : List Float} {indices' : List ℕ} {pool' : List Float} → floats' ≡ zeros +0 before.floats → indices' ≡ zeros 0 before.indices → pool' ≡ zeros +0 before.pool
+    → ◌≡◌ {A = Result ℕ Refusal × Areas} (Ok 0, areas before.cuts floats' indices' pool') (found_outcome (some []) before)
+left_none before f i q = outcome_is (some []) before refl refl f i q
 
-pub left_found : {found other : Option (List ℕ)} (before : Areas) {o : Answer × Areas} → other ≡ found → o ≡ found_outcome found before → o ≡ found_outcome other before
+pub left_found : {found other : Option (List ℕ)} (before : Areas) {o : Result ℕ Refusal × Areas} → other ≡ found → o ≡ found_outcome found before → o ≡ found_outcome other before
 left_found before e f = f ∙ sym (ap (λ (x : Option (List ℕ)). found_outcome x before) e)
 
 -- the work floats count by their number alone
-pub left_again : (found : Option (List ℕ)) (cuts : List ℕ) (between floats : List Float) (indices : List ℕ) (pool : List Float) {o : Answer × Areas}
+pub left_again : (found : Option (List ℕ)) (cuts : List ℕ) (between floats : List Float) (indices : List ℕ) (pool : List Float) {o : Result ℕ Refusal × Areas}
     → length between ≡ length floats → o ≡ found_outcome found (areas cuts between indices pool) → o ≡ found_outcome found (areas cuts floats indices pool)
 unfolding found_outcome
 left_again found cuts between floats indices pool e f = f ∙ ap (λ (k : ℕ). (found_answer found, areas (cuts_left found cuts) (replicate k +0) (zeros 0 indices) (zeros +0 pool))) e
@@ -149,18 +148,18 @@ front_cleared last size n ix ix' e l h c =
     ∙ replicate-append-replicate (n + 1) (size - (n + 1)) 0
     ∙ ap (λ (k : ℕ). replicate k 0) whole
 
-module _ {n m k run : ℕ} (before : Areas) {cuts' : List ℕ} {floats' : List Float} {ix ix' : List ℕ} {pool' : List Float} {r : Answer} where
+module _ {n m k run : ℕ} (before : Areas) {cuts' : List ℕ} {floats' : List Float} {ix ix' : List ℕ} {pool' : List Float} {r : ℕ} where
   left_cuts : (last : List ℕ) → CutBack n before.cuts cuts' ix ix' r → Sound m last → length last ≡ n + 1 → ix ≡ last ++ replicate (length before.indices - (n + 1)) 0
       → Admitted run n k m (length before.cuts) (length before.floats) (length before.indices) → floats' ≡ zeros +0 before.floats → pool' ≡ zeros +0 before.pool
-      → ◌≡◌ {A = Answer × Areas} (r, areas cuts' floats' ix' pool') (found_outcome (some (cuts_of last n)) before)
+      → ◌≡◌ {A = Result ℕ Refusal × Areas} (Ok r, areas cuts' floats' ix' pool') (found_outcome (some (cuts_of last n)) before)
   left_cuts last b s l e a f q =
       let rest : List ℕ = replicate (length before.indices - (n + 1)) 0 in
       let back = (rw e at b).back in
       let few : n < length last = omega arith in
       let count = front_count last rest back few in
       outcome_is (some (cuts_of last n)) before
-      (b.answer ∙ ap Answer.Count count)
-      (sym (take-append-drop b.count cuts')
+      (ap Ok count)
+      (sym (take-append-drop r cuts')
       ∙ ap₂ ◌++◌ (room_front last rest back s a.least few a.cuts_room) (room_rest last rest back s a.least few a.cuts_room)
       ∙ ap (λ (c : ℕ). cuts_of last n ++ drop c before.cuts) count)
       f
@@ -171,8 +170,8 @@ module _ {n m k run : ℕ} (before : Areas) {cuts' : List ℕ} {floats' : List F
 module _ (task : Task) (before : Areas) {floats' : List Float} {ix : List ℕ} {pool' : List Float} {b : Bool}
     (a : Admitted (length task.run) task.n task.channels task.m (length before.cuts) (length before.floats) (length before.indices)) (h : task.m ≤ task.n) (l : 1 ≤ task.channels) (g : task.channels ≤ functional_channels)
     (q : Partitioned task before.floats floats' before.indices ix before.pool pool' b) where
-  pub functional_left : {cuts' ix' : List ℕ} {r : Answer} → b ≡ true → CutBack task.n before.cuts cuts' ix ix' r
-      → ◌≡◌ {A = Answer × Areas} (r, areas cuts' floats' ix' pool') (found_outcome (functional_cuts task (length before.pool / slot_floats)) before)
+  pub functional_left : {cuts' ix' : List ℕ} {r : ℕ} → b ≡ true → CutBack task.n before.cuts cuts' ix ix' r
+      → ◌≡◌ {A = Result ℕ Refusal × Areas} (Ok r, areas cuts' floats' ix' pool') (found_outcome (functional_cuts task (length before.pool / slot_floats)) before)
   unfolding functional_cuts slots_suffice indices_after
   functional_left e c =
       let fit = admitted_fits_task a h l g in
@@ -180,7 +179,7 @@ module _ (task : Task) (before : Areas) {floats' : List Float} {ix : List ℕ} {
       let found : ix ≡ (functional task).last ++ replicate (length before.indices - (task.n + 1)) 0 = q.found fit ∙ rw enough in
       rw (functional_cuts, enough) (left_cuts before (functional task).last c (functional_sound task h) (functional_long task h) found a (q.floats_cleared fit) (q.pool_cleared fit))
 
-  pub functional_nine : b ≡ false → ◌≡◌ {A = Answer × Areas} (Answer.Refused Refusal.Pool, areas before.cuts floats' ix pool') (found_outcome (functional_cuts task (length before.pool / slot_floats)) before)
+  pub functional_nine : b ≡ false → ◌≡◌ {A = Result ℕ Refusal × Areas} (Err Refusal.Pool, areas before.cuts floats' ix pool') (found_outcome (functional_cuts task (length before.pool / slot_floats)) before)
   unfolding functional_cuts slots_suffice indices_after
   functional_nine e =
       let fit = admitted_fits_task a h l g in
@@ -188,10 +187,10 @@ module _ (task : Task) (before : Areas) {floats' : List Float} {ix : List ℕ} {
       let empty : ix ≡ zeros 0 before.indices = q.found fit ∙ rw few in
       rw (functional_cuts, few) (outcome_is none before refl refl (q.floats_cleared fit) empty (q.pool_cleared fit))
 
-pub pruned_left : {cost : CostFunction} {penalty : Float} {run : List Float} {n k m : ℕ} (before : Areas) {cuts' : List ℕ} {floats' : List Float} {ix ix' : List ℕ} {pool' : List Float} {r : Answer}
+pub pruned_left : {cost : CostFunction} {penalty : Float} {run : List Float} {n k m : ℕ} (before : Areas) {cuts' : List ℕ} {floats' : List Float} {ix ix' : List ℕ} {pool' : List Float} {r : ℕ}
     → Admitted (length run) n k m (length before.cuts) (length before.floats) (length before.indices) → m ≤ n → Pruned cost penalty run n k m before.floats floats' before.indices ix
     → Cleared +0 before.pool pool' 0 (length before.pool) → CutBack n before.cuts cuts' ix ix' r
-    → ◌≡◌ {A = Answer × Areas} (r, areas cuts' floats' ix' pool') (found_outcome (some (pruned_cuts cost run n k m penalty)) before)
+    → ◌≡◌ {A = Result ℕ Refusal × Areas} (Ok r, areas cuts' floats' ix' pool') (found_outcome (some (pruned_cuts cost run n k m penalty)) before)
 unfolding pruned_cuts
 pruned_left {cost} {penalty} {run} {n} {k} {m} before a h q z c =
     let fit = admitted_fits_search a h in
@@ -200,18 +199,15 @@ pruned_left {cost} {penalty} {run} {n} {k} {m} before a h q z c =
 
 -- ---- with the tests before 9
 module _ (strict : Bool) (cost : CostFunction) (penalty : Penalty) (m : ℕ) (run : List Float) (lengths : List ℕ) (before : Areas) where
-  pub detected_refused : {r : Refusal} → admitted_as strict penalty m run lengths (length before.cuts) (length before.floats) (length before.indices) ≡ Shaped.Refused r
-      → ◌≡◌ {A = Answer × Areas} (Answer.Refused r, before) (detected strict cost penalty m run lengths before)
+  pub detected_refused : (r : Refusal) → admitted_as strict penalty m run lengths (length before.cuts) (length before.floats) (length before.indices) ≡ Err r
+      → ◌≡◌ {A = Result ℕ Refusal × Areas} (Err r, before) (detected strict cost penalty m run lengths before)
   unfolding admitted_as outcome_by
-  detected_refused e = refused_tried (unchanged before) (tests_of strict penalty m run lengths before) (found_outcome (found_in cost penalty m run lengths before) before) _ _ e
+  detected_refused r e = refused_tried (unchanged before) (tests_of strict penalty m run lengths before) (found_outcome (found_in cost penalty m run lengths before) before) _ e
 
-  pub detected_found : {k n : ℕ} {o : Answer × Areas} → admitted_as strict penalty m run lengths (length before.cuts) (length before.floats) (length before.indices) ≡ Shaped.Channels k n
-      → o ≡ found_outcome (cuts_found cost penalty m run n k (length before.pool / slot_floats)) before → o ≡ detected strict cost penalty m run lengths before
+  pub detected_found : (c : Channels) (o : Result ℕ Refusal × Areas) → admitted_as strict penalty m run lengths (length before.cuts) (length before.floats) (length before.indices) ≡ Ok c
+      → o ≡ found_outcome (cuts_found cost penalty m run c.length c.count (length before.pool / slot_floats)) before → o ≡ detected strict cost penalty m run lengths before
   unfolding admitted_as outcome_by
-  detected_found {k} {n} e f =
+  detected_found c o e f =
       let tests = tests_of strict penalty m run lengths before in
-      let yes = channels_passed tests _ e in
-      let same : Shaped.Channels (length lengths) (first_length lengths) ≡ Shaped.Channels k n = sym (passed_channels tests _ yes) ∙ e in
-      let counted : k ≡ length lengths = cc in
-      let first : n ≡ first_length lengths = cc in
-      (rw (counted, first) at f) ∙ sym (tried_passed (unchanged before) tests (found_outcome (found_in cost penalty m run lengths before) before) yes)
+      let same = answered_channels tests lengths c e in
+      (rw (← same.0, ← same.1) at f) ∙ sym (tried_passed (unchanged before) tests (found_outcome (found_in cost penalty m run lengths before) before) (answered_passed tests _ e))

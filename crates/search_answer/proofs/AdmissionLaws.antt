@@ -2,27 +2,24 @@
 use Prim.Native.Nat.{ℕ, ◌*◌, ◌≤◌, ◌<◌}
 use native.Mathlib.Nat.{not-suc-le-zero}
 use mathlib.Core.Path.{◌≡◌, refl, sym, ap, ◌∙◌}
-use mathlib.Core.Bool.{Bool, true, false, not, ◌&&◌, ◌||◌, cond, false≢true}
-use mathlib.Core.List.{List, [], ◌∷◌, ◌++◌}
-use borrow.Author.Tests.{ltb-false, not-false}
+use mathlib.Core.Bool.{Bool, true, false, not, ◌||◌, false≢true}
+use mathlib.Core.List.{List, [], ◌∷◌}
+use borrow.Author.Tests.{lt-ltb, le-ltb, ltb-false, not-false}
 use lib.Dec.{ltb}
 use lib.ListN.{length}
 use lib.Ieee.{Float}
 use native.Mathlib.Omega.{arith}
 use Rattle.logic.proofs.Laws.{clash}
-use Rattle.floats.specs.Numbers.{◌<ᶠ◌, +0}
-use Rattle.floats.specs.Finite.{finite}
+use Rattle.std.specs.Prelude.{Result, Ok, Err}
 use Rattle.costs.specs.declared.Penalty.{Penalty}
 use Rattle.refusals.specs.Limits.{max_channels, max_readings}
 use Rattle.refusals.specs.Tried.{tried, passed}
 use Rattle.refusals.specs.Said.{answered, refusing}
 use Rattle.refusals.proofs.TriedLaws.{tried_map, tried_passed, tried_append, passed_first, passed_rest, passed_left, passed_right}
 use Rattle.refusals.specs.declared.Refusal.{Refusal}
-use Rattle.readings.specs.Shape.{shape_tests, shaped_as, shaped, first_length}
-use Rattle.readings.specs.Gaps.{gap_to, channel_at, index_at, gap_tests, checked_as}
-use Rattle.readings.specs.declared.Shaped.{Shaped}
-use Rattle.readings.specs.declared.Checked.{Checked}
-use Rattle.readings.proofs.ShapeLaws.{channels_fill}
+use Rattle.readings.specs.Shape.{shape_tests, shaped_as, shaped, first_length, channels}
+use Rattle.readings.specs.declared.Channels.{Channels}
+use Rattle.readings.proofs.ShapeLaws.{same_channels, accepted, channels_fill}
 use Rattle.search_rules.specs.Limits.{least_minimum}
 use Rattle.search_rules.specs.Room.{cuts_for, room_fits}
 use Rattle.search_rules.proofs.RoomLaws.{Roomy, roomy}
@@ -30,44 +27,24 @@ use Rattle.search_answer.specs.Tests.{bad_penalty, short_room, room_tests, searc
 use Rattle.search_answer.specs.Inner.Admitted.{Admitted}
 
 -- ---- any list of tests
-is_refusal : Shaped → Bool
-is_refusal (Shaped.Channels k n) = false
-is_refusal (Shaped.Refused r) = true
+refused_not : {A : Type 0} {a : A} {r : Refusal} → ◌≡◌ {A = Result A Refusal} (Err r) (Ok a) → ⊥
+refused_not e = clash cc
 
-not_both : {k n : ℕ} {r : Refusal} → Shaped.Refused r ≡ Shaped.Channels k n → ⊥
-unfolding is_refusal
-not_both e = false≢true (sym (ap is_refusal e))
-
--- where channels are answered, no test holds
-pub channels_passed : (ts : List (Bool × Refusal)) (c : Shaped) {k n : ℕ} → tried Shaped.Refused ts c ≡ Shaped.Channels k n → passed ts ≡ true
+-- where a result is answered, no test holds
+pub answered_passed : {A : Type 0} (ts : List (Bool × Refusal)) (result : A) {a : A} → tried Err ts (Ok result) ≡ Ok a → passed ts ≡ true
 unfolding tried passed
-channels_passed [] c e = refl
-channels_passed ((true, r) ∷ ts) c e = absurd (not_both e)
-channels_passed ((false, r) ∷ ts) c e = channels_passed ts c e
-
-pub passed_channels : (ts : List (Bool × Refusal)) (c : Shaped) → passed ts ≡ true → tried Shaped.Refused ts c ≡ c
-passed_channels ts c e = tried_passed Shaped.Refused ts c e
+answered_passed [] result e = refl
+answered_passed ((true, r) ∷ ts) result e = absurd (refused_not e)
+answered_passed ((false, r) ∷ ts) result e = answered_passed ts result e
 
 -- where a refusal is answered, the same tests give it in any other kind of answer
-pub refused_tried : {A : Type 0} (refuse : Refusal → A) (ts : List (Bool × Refusal)) (result : A) (k n : ℕ) {r : Refusal} → tried Shaped.Refused ts (Shaped.Channels k n) ≡ Shaped.Refused r → refuse r ≡ tried refuse ts result
+pub refused_tried : {A B : Type 0} (refuse : Refusal → B) (ts : List (Bool × Refusal)) (other : B) (result : A) {r : Refusal} → tried Err ts (Ok result) ≡ Err r → refuse r ≡ tried refuse ts other
 unfolding tried
-refused_tried refuse [] result k n e = absurd (not_both (sym e))
-refused_tried refuse ((true, q) ∷ ts) result k n {r} e = let h : r ≡ q = cc in ap refuse h
-refused_tried refuse ((false, q) ∷ ts) result k n e = refused_tried refuse ts result k n e
+refused_tried refuse [] other result e = absurd (refused_not (sym e))
+refused_tried refuse ((true, q) ∷ ts) other result {r} e = let h : r ≡ q = cc in ap refuse h
+refused_tried refuse ((false, q) ∷ ts) other result e = refused_tried refuse ts other result e
 
--- and the tests after them are not tried
-refused_before : (ts us : List (Bool × Refusal)) (c : Shaped) (k n : ℕ) {r : Refusal} → tried Shaped.Refused ts (Shaped.Channels k n) ≡ Shaped.Refused r → tried Shaped.Refused (ts ++ us) c ≡ Shaped.Refused r
-refused_before ts us c k n e = tried_append Shaped.Refused ts us c ∙ sym (refused_tried Shaped.Refused ts (tried Shaped.Refused us c) k n e)
-
-passed_before : (ts us : List (Bool × Refusal)) (c : Shaped) → passed ts ≡ true → tried Shaped.Refused (ts ++ us) c ≡ tried Shaped.Refused us c
-passed_before ts us c e = tried_append Shaped.Refused ts us c ∙ tried_passed Shaped.Refused ts (tried Shaped.Refused us c) e
-
--- ---- 1
-pub bad_custom : (penalty : Penalty) (v : Float) (b : Bool) → penalty ≡ Penalty.Custom v → b ≡ finite v → not (b && (+0 <ᶠ v)) ≡ bad_penalty penalty
-unfolding bad_penalty
-bad_custom penalty v b e f = rw (e, f)
-
--- ---- 7 and 8
+-- ---- 7
 or_first : (a b : Bool) → (a || b) ≡ false → a ≡ false
 or_first false b e = refl
 or_first true b e = absurd (false≢true (sym e))
@@ -83,32 +60,10 @@ room_of n k cuts floats indices e =
     let b = room_fits n k floats indices in
     (ltb-false cuts (cuts_for n) (or_first a (not b) e), roomy n k floats indices (not-false b (or_second a (not b) e)))
 
-pub short_refused : (strict : Bool) (run : List Float) (n k cuts floats indices : ℕ) (c : Shaped) → short_room n k cuts floats indices ≡ true → tried Shaped.Refused (room_tests strict run n k cuts floats indices) c ≡ Shaped.Refused Refusal.Room
+-- too little room is refused, whatever comes after
+pub short_refused : (strict : Bool) (run : List Float) (n k cuts floats indices : ℕ) (c : Result Channels Refusal) → short_room n k cuts floats indices ≡ true → tried Err (room_tests strict run n k cuts floats indices) c ≡ Err Refusal.Room
 unfolding tried room_tests
 short_refused strict run n k cuts floats indices c e = rw e
-
--- 8 is what `all_finite` answers
-pub gap_refused : (strict : Bool) (run : List Float) (n k cuts floats indices : ℕ) (c : Shaped) {r : Refusal} → strict ≡ true → short_room n k cuts floats indices ≡ false → checked_as run n ≡ Checked.Refused r → tried Shaped.Refused (room_tests strict run n k cuts floats indices) c ≡ Shaped.Refused r
-unfolding tried room_tests checked_as gap_tests
-gap_refused strict run n k cuts floats indices c {r} s e h = rw (s, e) (go (ltb (gap_to run (length run)) (length run)) h)
-  where
-    go : (b : Bool) → cond b (Checked.Refused (Refusal.NonFinite (channel_at n (gap_to run (length run))) (index_at n (gap_to run (length run))))) Checked.Finite ≡ Checked.Refused r
-        → cond b (Shaped.Refused (Refusal.NonFinite (channel_at n (gap_to run (length run))) (index_at n (gap_to run (length run))))) c ≡ Shaped.Refused r
-    go true f = cc
-    go false f = absurd (clash cc)
-
-pub finite_passed : (strict : Bool) (run : List Float) (n k cuts floats indices : ℕ) (c : Shaped) → strict ≡ true → short_room n k cuts floats indices ≡ false → checked_as run n ≡ Checked.Finite → tried Shaped.Refused (room_tests strict run n k cuts floats indices) c ≡ c
-unfolding tried room_tests checked_as gap_tests
-finite_passed strict run n k cuts floats indices c s e h = rw (s, e) (go (ltb (gap_to run (length run)) (length run)) h)
-  where
-    go : (b : Bool) → cond b (Checked.Refused (Refusal.NonFinite (channel_at n (gap_to run (length run))) (index_at n (gap_to run (length run))))) Checked.Finite ≡ Checked.Finite
-        → cond b (Shaped.Refused (Refusal.NonFinite (channel_at n (gap_to run (length run))) (index_at n (gap_to run (length run))))) c ≡ c
-    go true f = absurd (clash cc)
-    go false f = refl
-
-pub plain_passed : (strict : Bool) (run : List Float) (n k cuts floats indices : ℕ) (c : Shaped) → strict ≡ false → short_room n k cuts floats indices ≡ false → tried Shaped.Refused (room_tests strict run n k cuts floats indices) c ≡ c
-unfolding tried room_tests
-plain_passed strict run n k cuts floats indices c s e = rw (s, e)
 
 -- ---- what the lengths say
 -- as many channels as lengths, of the first one's readings; the rules' limits hold, and the channels fill the run
@@ -124,55 +79,70 @@ first_some : {k : ℕ} (lengths : List ℕ) → 0 < first_length lengths → len
 first_some [] h e = absurd (not-suc-le-zero h)
 first_some (l ∷ lengths) h e = omega arith
 
-pub shapely : (run : List Float) (lengths : List ℕ) {k n : ℕ} → shaped_as lengths (length run) ≡ Shaped.Channels k n → Shapely run lengths k n
+-- the channels that are answered, whatever tests came before them
+pub answered_channels : (ts : List (Bool × Refusal)) (lengths : List ℕ) (c : Channels) → tried Err ts (Ok (channels (length lengths) (first_length lengths))) ≡ Ok c → (length lengths ≡ c.count) × (first_length lengths ≡ c.length)
+answered_channels ts lengths c e =
+    let same = same_channels (sym (tried_passed Err ts _ (answered_passed ts _ e)) ∙ e) in
+    (ap (λ (d : Channels). d.count) same, ap (λ (d : Channels). d.length) same)
+
+pub shapely : (run : List Float) (lengths : List ℕ) (c : Channels) → shaped_as lengths (length run) ≡ Ok c → Shapely run lengths c.count c.length
 unfolding shaped_as shape_tests
-shapely run lengths {k} {n} e =
-    let ok = channels_passed (shape_tests lengths (length run)) _ e in
-    let same : Shaped.Channels (length lengths) (first_length lengths) ≡ Shaped.Channels k n = sym (passed_channels (shape_tests lengths (length run)) _ ok) ∙ e in
-    let counted : length lengths ≡ k = cc in
-    let first : first_length lengths ≡ n = cc in
-    let later = passed_rest _ _ (passed_rest _ _ (passed_rest _ _ ok)) in
+shapely run lengths c e =
+    let a = accepted lengths (length run) c e in
     record {
-      counted = counted;
-      first = first;
-      few = rw (← counted) (ltb-false max_channels (length lengths) (passed_first _ _ ok));
-      short = rw (← first) (ltb-false max_readings (first_length lengths) (passed_first _ _ later));
-      fill = channels_fill run lengths k n e;
+      counted = a.counted;
+      first = a.first;
+      few = rw (← a.counted) a.few;
+      short = rw (← a.first) a.short;
+      fill = channels_fill run lengths c e;
     }
+
+-- the limits alone, for the code
+pub shape_limits : (run : ℕ) (lengths : List ℕ) (c : Channels) → shaped_as lengths run ≡ Ok c → (c.length ≤ max_readings) × (c.count ≤ max_channels)
+shape_limits run lengths c e = let a = accepted lengths run c e in (rw (← a.first) a.short, rw (← a.counted) a.few)
 
 -- ---- all of them
 module _ (strict : Bool) (penalty : Penalty) (m : ℕ) (run : List Float) (lengths : List ℕ) (cuts floats indices : ℕ) where
-  pub penalty_first : bad_penalty penalty ≡ true → admitted_as strict penalty m run lengths cuts floats indices ≡ Shaped.Refused Refusal.Penalty
+  pub penalty_first : bad_penalty penalty ≡ true → admitted_as strict penalty m run lengths cuts floats indices ≡ Err Refusal.Penalty
   unfolding admitted_as search_tests tried
   penalty_first e = rw e
 
-  pub least_second : bad_penalty penalty ≡ false → ltb m least_minimum ≡ true → admitted_as strict penalty m run lengths cuts floats indices ≡ Shaped.Refused Refusal.MinLen
+  pub least_second : bad_penalty penalty ≡ false → m < least_minimum → admitted_as strict penalty m run lengths cuts floats indices ≡ Err Refusal.MinLen
   unfolding admitted_as search_tests tried
-  least_second e h = rw (e, h)
+  least_second e h = rw (e, lt-ltb m least_minimum h)
 
-  pub shape_third : {r : Refusal} → bad_penalty penalty ≡ false → ltb m least_minimum ≡ false → shaped_as lengths (length run) ≡ Shaped.Refused r → admitted_as strict penalty m run lengths cuts floats indices ≡ Shaped.Refused r
-  unfolding admitted_as search_tests tried shaped_as
-  shape_third e h l = rw (e, h) (refused_before (shape_tests lengths (length run)) _ _ _ _ l)
+  -- the tests of the lengths, and those after them where they pass
+  after_two : bad_penalty penalty ≡ false → least_minimum ≤ m
+      → admitted_as strict penalty m run lengths cuts floats indices
+      ≡ tried Err (shape_tests lengths (length run)) (tried Err (room_tests strict run (first_length lengths) (length lengths) cuts floats indices) (Ok (channels (length lengths) (first_length lengths))))
+  unfolding admitted_as search_tests tried
+  after_two e h = rw (e, le-ltb m least_minimum h) (tried_append Err (shape_tests lengths (length run)) _ _)
 
-  pub room_last : {k n : ℕ} → bad_penalty penalty ≡ false → ltb m least_minimum ≡ false → shaped_as lengths (length run) ≡ Shaped.Channels k n
-      → admitted_as strict penalty m run lengths cuts floats indices ≡ tried Shaped.Refused (room_tests strict run n k cuts floats indices) (Shaped.Channels k n)
-  unfolding admitted_as search_tests tried shaped_as
-  room_last e h l =
-      let s = shapely run lengths l in
-      rw (e, h, passed_before (shape_tests lengths (length run)) (room_tests strict run (first_length lengths) (length lengths) cuts floats indices) (Shaped.Channels (length lengths) (first_length lengths)) (channels_passed (shape_tests lengths (length run)) _ l), s.counted, s.first)
+  pub shape_third : (r : Refusal) → bad_penalty penalty ≡ false → least_minimum ≤ m → shaped_as lengths (length run) ≡ Err r → admitted_as strict penalty m run lengths cuts floats indices ≡ Err r
+  unfolding shaped_as
+  shape_third r e h l = after_two e h ∙ sym (refused_tried Err (shape_tests lengths (length run)) _ _ l)
+
+  pub room_last : (c : Channels) → bad_penalty penalty ≡ false → least_minimum ≤ m → shaped_as lengths (length run) ≡ Ok c
+      → admitted_as strict penalty m run lengths cuts floats indices ≡ tried Err (room_tests strict run c.length c.count cuts floats indices) (Ok c)
+  unfolding shaped_as
+  room_last c e h l =
+      let same = answered_channels (shape_tests lengths (length run)) lengths c l in
+      after_two e h
+      ∙ tried_passed Err (shape_tests lengths (length run)) _ (answered_passed (shape_tests lengths (length run)) _ l)
+      ∙ rw (same.0, same.1) refl
 
   -- what an admitted search may rely on
-  pub admitted_fits : {k n : ℕ} → admitted_as strict penalty m run lengths cuts floats indices ≡ Shaped.Channels k n → Admitted (length run) n k m cuts floats indices
+  pub admitted_fits : (c : Channels) → admitted_as strict penalty m run lengths cuts floats indices ≡ Ok c → Admitted (length run) c.length c.count m cuts floats indices
   unfolding admitted_as search_tests room_tests shaped_as
-  admitted_fits {k} {n} e =
-      let ok = channels_passed (search_tests strict penalty m run lengths cuts floats indices) _ e in
-      let same : Shaped.Channels (length lengths) (first_length lengths) ≡ Shaped.Channels k n = sym (passed_channels (search_tests strict penalty m run lengths cuts floats indices) _ ok) ∙ e in
-      let counted : length lengths ≡ k = cc in
-      let first : first_length lengths ≡ n = cc in
+  admitted_fits c e =
+      let ok = answered_passed (search_tests strict penalty m run lengths cuts floats indices) _ e in
+      let same = answered_channels (search_tests strict penalty m run lengths cuts floats indices) lengths c e in
+      let counted = same.0 in
+      let first = same.1 in
       let ok₂ = passed_rest _ _ ok in
       let ok₃ = passed_rest _ _ ok₂ in
       let shape_ok = passed_left (shape_tests lengths (length run)) _ ok₃ in
-      let s = shapely run lengths (passed_channels (shape_tests lengths (length run)) _ shape_ok) in
+      let s = shapely run lengths (channels (length lengths) (first_length lengths)) (tried_passed Err (shape_tests lengths (length run)) _ shape_ok) in
       let room : short_room (first_length lengths) (length lengths) cuts floats indices ≡ false = passed_first _ _ (passed_right (shape_tests lengths (length run)) _ ok₃) in
       record {
         least = ltb-false m least_minimum (passed_first _ _ ok₂);
@@ -188,4 +158,4 @@ module _ (strict : Bool) (penalty : Penalty) (m : ℕ) (run : List Float) (lengt
   -- ---- in the rules' numbers
   pub admitted_said : shaped (admitted_as strict penalty m run lengths cuts floats indices) ≡ tried refusing (search_tests strict penalty m run lengths cuts floats indices) (answered (length lengths ∷ first_length lengths ∷ []))
   unfolding admitted_as
-  admitted_said = tried_map shaped Shaped.Refused (search_tests strict penalty m run lengths cuts floats indices) (Shaped.Channels (length lengths) (first_length lengths))
+  admitted_said = tried_map shaped Err (search_tests strict penalty m run lengths cuts floats indices) (Ok (channels (length lengths) (first_length lengths)))

@@ -12,11 +12,12 @@ use lib.ListN.{length, take}
 use lib.Ieee.{Float}
 use Rattle.logic.proofs.Laws.{clash}
 use Rattle.floats.specs.Numbers.{◌≤ᶠ◌, +0}
-use Rattle.refusals.specs.declared.Answer.{Answer}
+use Rattle.std.specs.Prelude.{Result, Ok, Err}
 use Rattle.costs.specs.declared.CostFunction.{CostFunction}
 use Rattle.costs.specs.declared.Penalty.{Penalty}
-use Rattle.readings.specs.Shape.{first_length}
-use Rattle.readings.specs.declared.Shaped.TheVariants as Shaped
+use Rattle.readings.specs.Shape.{first_length, channels}
+use Rattle.refusals.proofs.TriedLaws.{tried_passed}
+use Rattle.refusals.specs.declared.Refusal.{Refusal}
 use Rattle.search_rules.specs.Predecessors.{Sound}
 use Rattle.search_rules.specs.Inequality.{price}
 use Rattle.search_rules.proofs.InequalityLaws.{predecessors_sound}
@@ -29,7 +30,7 @@ use Rattle.search_answer.specs.Tests.{admitted_as}
 use Rattle.search_answer.specs.Search.{penalty_value, pruned_cuts, functional_cuts, takes_functional, cuts_by, cuts_with, cuts_found}
 use Rattle.search_answer.specs.Outcome.{Areas, tests_of, found_in, detected}
 use Rattle.search_answer.specs.Promise.{Cut}
-use Rattle.search_answer.proofs.AdmissionLaws.{passed_channels, admitted_fits}
+use Rattle.search_answer.proofs.AdmissionLaws.{admitted_fits}
 use Rattle.search_answer.proofs.FrontLaws.{counted_found, front}
 
 -- ---- of the cuts that are found
@@ -78,13 +79,13 @@ found_good cost penalty m run n k slots h =
 -- ---- as the caller sees them
 -- the cuts in the front of the area, however it was before and whatever the readings are
 pub detected_cuts : (strict : Bool) (cost : CostFunction) (penalty : Penalty) (m : ℕ) (run : List Float) (lengths : List ℕ) (before after : Areas) (count : ℕ)
-    → ◌≡◌ {A = Answer × Areas} (Answer.Count count, after) (detected strict cost penalty m run lengths before) → Cut m (first_length lengths) (take count after.cuts)
+    → ◌≡◌ {A = Result ℕ Refusal × Areas} (Ok count, after) (detected strict cost penalty m run lengths before) → Cut m (first_length lengths) (take count after.cuts)
 unfolding admitted_as
 detected_cuts strict cost penalty m run lengths before after count d =
     let tests = tests_of strict penalty m run lengths before in
     let found = found_in cost penalty m run lengths before in
     let c = counted_found tests found before after count d in
     let f = front found before after count c.1 in
-    let fits = admitted_fits strict penalty m run lengths (length before.cuts) (length before.floats) (length before.indices) (passed_channels tests (Shaped.Channels (length lengths) (first_length lengths)) c.0) in
+    let fits = admitted_fits strict penalty m run lengths (length before.cuts) (length before.floats) (length before.indices) (channels (length lengths) (first_length lengths)) (tried_passed Err tests _ c.0) in
     let good = found_good cost penalty m run (first_length lengths) (length lengths) (length before.pool / slot_floats) fits.least in
     rw f.stand (good.cut f.cuts f.are)

@@ -12,22 +12,22 @@ use lib.Ieee.Fits.{and_l, and_r}
 use Rattle.costs.specs.declared.Penalty.{Penalty}
 use Rattle.refusals.specs.Stated.{stated}
 use Rattle.refusals.specs.Tried.{tried, passed}
-use Rattle.refusals.specs.declared.Answer.{Answer}
+use Rattle.refusals.proofs.TriedLaws.{tried_passed}
+use Rattle.std.specs.Prelude.{Result, Err}
 use Rattle.refusals.specs.declared.Refusal.{Refusal}
-use Rattle.readings.specs.Shape.{shape_tests, shaped_as, first_length}
+use Rattle.readings.specs.Shape.{shape_tests, shaped_as, first_length, channels}
 use Rattle.readings.specs.Gaps.{gap_to, channel_at, index_at}
 use Rattle.readings.specs.FirstGap.{FirstGap}
-use Rattle.readings.specs.declared.Shaped.TheVariants as Shaped
 use Rattle.readings.proofs.FirstGapLaws.{first_gap}
 use Rattle.search_rules.specs.Limits.{least_minimum}
 use Rattle.search_answer.specs.Tests.{bad_penalty, short_room, room_tests, search_tests}
-use Rattle.search_answer.proofs.AdmissionLaws.{passed_channels, Shapely, shapely}
+use Rattle.search_answer.proofs.AdmissionLaws.{Shapely, shapely}
 
 -- the answer 8
-abbrev eight : ℕ → ℕ → Answer
-eight k i = Answer.Refused (Refusal.NonFinite k i)
+abbrev eight : ℕ → ℕ → Result ℕ Refusal
+eight k i = Err (Refusal.NonFinite k i)
 
-refusal_is : (r q : Refusal) → Answer.Refused r ≡ Answer.Refused q → r ≡ q
+refusal_is : (r q : Refusal) → ◌≡◌ {A = Result ℕ Refusal} (Err r) (Err q) → r ≡ q
 refusal_is r q e = cc
 
 -- none of these tests refuses with `number`
@@ -43,7 +43,7 @@ same_number : (q r : Refusal) → q ≡ r → T (not (eqb (stated r).number (sta
 same_number q r e h = not_itself (stated r).number (rw e at h)
 
 -- so where a refusal with that number is answered, none of them holds, and those after them give it
-pub after_others : (q : Refusal) (ts us : List (Bool × Refusal)) (s : Answer) → T (others (stated q).number ts) → Answer.Refused q ≡ tried Answer.Refused (ts ++ us) s → (passed ts ≡ true) × (Answer.Refused q ≡ tried Answer.Refused us s)
+pub after_others : (q : Refusal) (ts us : List (Bool × Refusal)) (s : Result ℕ Refusal) → T (others (stated q).number ts) → Err q ≡ tried Err (ts ++ us) s → (passed ts ≡ true) × (Err q ≡ tried Err us s)
 unfolding others tried passed
 after_others q [] us s o e = (refl, e)
 after_others q ((true, r) ∷ ts) us s o e = absurd (same_number q r (refusal_is q r e) (and_l (not (eqb (stated r).number (stated q).number)) (others (stated q).number ts) o))
@@ -59,8 +59,8 @@ pub record Gap (strict : Bool) (run : List Float) (lengths : List ℕ) (k i : �
   pub shape : Shapely run lengths (length lengths) (first_length lengths)
   pub first : FirstGap run (length lengths) (first_length lengths) k i
 
-module _ (strict : Bool) (penalty : Penalty) (m : ℕ) (run : List Float) (lengths : List ℕ) (cuts floats indices : ℕ) (s : Answer) (k i : ℕ) where
-  pub refused_gap : eight k i ≡ tried Answer.Refused (search_tests strict penalty m run lengths cuts floats indices) s → (eight k i ≡ s → ⊥) → Gap strict run lengths k i
+module _ (strict : Bool) (penalty : Penalty) (m : ℕ) (run : List Float) (lengths : List ℕ) (cuts floats indices : ℕ) (s : Result ℕ Refusal) (k i : ℕ) where
+  pub refused_gap : eight k i ≡ tried Err (search_tests strict penalty m run lengths cuts floats indices) s → (eight k i ≡ s → ⊥) → Gap strict run lengths k i
   unfolding search_tests room_tests shape_tests shaped_as others tried
   refused_gap e other =
       let n = first_length lengths in
@@ -69,12 +69,12 @@ module _ (strict : Bool) (penalty : Penalty) (m : ℕ) (run : List Float) (lengt
       let a = after_others (Refusal.NonFinite k i) ((bad_penalty penalty, Refusal.Penalty) ∷ (ltb m least_minimum, Refusal.MinLen) ∷ []) (shape_tests lengths (length run) ++ room) s tt e in
       let b = after_others (Refusal.NonFinite k i) (shape_tests lengths (length run)) room s tt a.1 in
       let c = after_others (Refusal.NonFinite k i) ((short_room n (length lengths) cuts floats indices, Refusal.Room) ∷ []) ((strict && ltb at (length run), Refusal.NonFinite (channel_at n at) (index_at n at)) ∷ []) s tt b.1 in
-      let shape = shapely run lengths (passed_channels (shape_tests lengths (length run)) (Shaped.Channels (length lengths) n) b.0) in
+      let shape = shapely run lengths (channels (length lengths) n) (tried_passed Err (shape_tests lengths (length run)) _ b.0) in
       last shape strict (ltb at (length run)) refl (λ l. first_gap run (length lengths) n shape.few shape.short shape.fill (ltb-true at (length run) l)) c.1
     where
       last : Shapely run lengths (length lengths) (first_length lengths) → (t b : Bool) → ltb (gap_to run (length run)) (length run) ≡ b → let n = first_length lengths in let at = gap_to run (length run) in
           (ltb at (length run) ≡ true → FirstGap run (length lengths) n (channel_at n at) (index_at n at))
-          → eight k i ≡ tried Answer.Refused ((t && b, Refusal.NonFinite (channel_at n at) (index_at n at)) ∷ []) s → Gap t run lengths k i
+          → eight k i ≡ tried Err ((t && b, Refusal.NonFinite (channel_at n at) (index_at n at)) ∷ []) s → Gap t run lengths k i
       last shape true true l f e = record { is_strict = refl; shape = shape; first = same_place (FirstGap run (length lengths) (first_length lengths)) k i _ _ e (f l) }
       last shape true false l f e = absurd (other e)
       last shape false b l f e = absurd (other e)

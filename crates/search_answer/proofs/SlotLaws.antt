@@ -16,7 +16,7 @@ use Rattle.costs.specs.declared.CostFunction.{CostFunction}
 use Rattle.costs.specs.declared.Penalty.{Penalty}
 use Rattle.refusals.specs.Tried.{tried}
 use Rattle.refusals.proofs.TriedLaws.{tried_map, passed_first, passed_rest}
-use Rattle.refusals.specs.declared.Answer.{Answer}
+use Rattle.std.specs.Prelude.{Result, Err}
 use Rattle.refusals.specs.declared.Refusal.{Refusal}
 use Rattle.readings.specs.Shape.{shape_tests, first_length}
 use Rattle.search_rules.specs.Limits.{least_minimum, slot_floats}
@@ -55,16 +55,16 @@ enough cost penalty m run n k slots least room e =
     pick_none false cuts e h = clash cc
 
 -- the answer of an outcome
-abbrev answer_of : Answer × Areas → Answer
+abbrev answer_of : Result ℕ Refusal × Areas → Result ℕ Refusal
 answer_of o = o.0
 
 -- 9 is answered where nothing is found
-nothing_found : (found : Option (List ℕ)) → Answer.Refused Refusal.Pool ≡ found_answer found → found ≡ none
+nothing_found : (found : Option (List ℕ)) → Err Refusal.Pool ≡ found_answer found → found ≡ none
 nothing_found none e = refl
 nothing_found (some cuts) e = absurd (clash cc)
 
 module _ (strict : Bool) (cost : CostFunction) (penalty : Penalty) (m : ℕ) (run : List Float) (lengths : List ℕ) (before after : Areas) where
-  pub detected_slots : ◌≡◌ {A = Answer × Areas} (Answer.Refused Refusal.Pool, after) (detected strict cost penalty m run lengths before) → length before.pool / slot_floats < first_length lengths
+  pub detected_slots : ◌≡◌ {A = Result ℕ Refusal × Areas} (Err Refusal.Pool, after) (detected strict cost penalty m run lengths before) → length before.pool / slot_floats < first_length lengths
   unfolding outcome_by found_outcome search_tests shape_tests room_tests others tried
   detected_slots d =
       let found = found_in cost penalty m run lengths before in

@@ -1,12 +1,12 @@
 -- The refusals of a search before 9, in the order in which they are tried. Rules 2.1 to 2.4. Definitions only.
-use Rattle.std.specs.Prelude.{ℕ, Bool, false, not, ◌&&◌, ◌||◌, List, [], ◌∷◌, ◌++◌, ltb, length, Float}
+use Rattle.std.specs.Prelude.{ℕ, Bool, false, not, ◌&&◌, ◌||◌, List, [], ◌∷◌, ◌++◌, Result, Ok, Err, ltb, length, Float}
 use Rattle.floats.specs.Numbers.{◌<ᶠ◌, +0}
 use Rattle.floats.specs.Finite.{finite}
 use Rattle.refusals.specs.Tried.{tried}
 use Rattle.refusals.specs.declared.Refusal.{Refusal}
-use Rattle.readings.specs.Shape.{shape_tests, first_length}
+use Rattle.readings.specs.Shape.{shape_tests, first_length, channels}
 use Rattle.readings.specs.Gaps.{gap_to, channel_at, index_at}
-use Rattle.readings.specs.declared.Shaped.{Shaped}
+use Rattle.readings.specs.declared.Channels.{Channels}
 use Rattle.search_rules.specs.Limits.{least_minimum}
 use Rattle.search_rules.specs.Room.{cuts_for, room_fits}
 use Rattle.costs.specs.declared.Penalty.{Penalty}
@@ -34,5 +34,5 @@ search_tests strict penalty m run lengths cuts floats indices =
     ∷ (shape_tests lengths (length run) ++ room_tests strict run (first_length lengths) (length lengths) cuts floats indices)
 
 -- the first of refusals 1 to 8, or the channels
-unfoldable pub admitted_as : Bool → Penalty → ℕ → List Float → List ℕ → ℕ → ℕ → ℕ → Shaped
-admitted_as strict penalty m run lengths cuts floats indices = tried Shaped.Refused (search_tests strict penalty m run lengths cuts floats indices) (Shaped.Channels (length lengths) (first_length lengths))
+unfoldable pub admitted_as : Bool → Penalty → ℕ → List Float → List ℕ → ℕ → ℕ → ℕ → Result Channels Refusal
+admitted_as strict penalty m run lengths cuts floats indices = tried Err (search_tests strict penalty m run lengths cuts floats indices) (Ok (channels (length lengths) (first_length lengths)))

@@ -23,7 +23,7 @@ pub use room::search_fits;
 pub use slack::slack_of;
 
 // The lowest total so far, `cost`, and the candidate `tau` that it belongs to.
-#[derive(Clone, Copy)]
+#[derive(Clone, Copy, PartialEq, Debug)]
 pub struct Best {
     pub cost: f64,
     pub tau: usize,
@@ -32,7 +32,7 @@ pub struct Best {
 // What two candidates a < b mean to each other: two balls about the mean of the readings between them,
 // with the centre `cx`, `cy` and the squares of their radii. In the `outer` one, wider by the slack, a
 // may still win; in the `inner` one, narrower by it, b loses.
-#[derive(Clone, Copy)]
+#[derive(Clone, Copy, PartialEq, Debug)]
 pub struct Facing {
     pub cx: f64,
     pub cy: f64,

@@ -9,18 +9,20 @@ pub fn none_yet() -> Best
     ensures { result ≡ none_yet }
 {
     Best {
-        cost: f64::from_bits(0x7ff0_0000_0000_0000),
+        cost: f64::INFINITY,
         tau: 0,
     }
 }
 
 // The candidate `tau` with its `total` where that is below the lowest so far, and `best` otherwise: a
 // NaN is not below it, nor is an equal total.
+#[tactic(auto, unfolding(crate::specs::Minimum::better_of))]
 pub fn better(best: Best, total: f64, tau: usize) -> Best
     ensures { result ≡ better_of best total tau }
 {
     if total < best.cost {
-        return Best { cost: total, tau };
+        Best { cost: total, tau }
+    } else {
+        best
     }
-    best
 }

@@ -1,5 +1,5 @@
 -- The mean of a channel, and the running sums of its readings less that mean and of their squares. Rule 3.5. Definitions only.
-use Rattle.std.specs.Prelude.{◌≡◌, ℕ, zero, suc, ◌+◌, ◌*◌, Bool, true, false, List, length, get_or, nat_le, slice_index_or, Float}
+use Rattle.std.specs.Prelude.{◌≡◌, ℕ, zero, suc, ◌+◌, ◌*◌, Bool, true, false, List, length, get_or, nat_le, Float}
 use Rattle.std.specs.Float.{nan}
 use Rattle.floats.specs.Numbers.{◌+ᶠ◌, ◌-ᶠ◌, ◌*ᶠ◌, ◌/ᶠ◌, +0, of_whole}
 use Rattle.areas.specs.Parts.{part, tab, Frame}
@@ -15,7 +15,7 @@ mean_of xs = sum_to xs (length xs) /ᶠ of_whole (length xs)
 
 -- the reading `i` of `xs` less `mean`
 unfoldable pub centred : List Float → Float → ℕ → Float
-centred xs mean i = slice_index_or xs i nan -ᶠ mean
+centred xs mean i = get_or xs i nan -ᶠ mean
 
 -- the sum of the first `i` readings of `xs`, each less `mean`, from the index 0 up
 unfoldable pub centred_to : List Float → Float → ℕ → Float

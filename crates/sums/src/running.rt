@@ -4,14 +4,11 @@ ghost use Rattle.sums.specs.Sums.{Summed, Ran, two_runs};
 
 // Whether an area of `size` floats has room at `place` for two parts of `n` + 1 floats; no sum is formed
 // that could wrap.
+#[tactic(auto, using(crate::proofs::SumLaws::half_room, crate::proofs::SumLaws::no_room))]
 fn two_runs(size: usize, n: usize, place: usize) -> bool
     ensures { result ≡ two_runs size n place }
 {
-    if place <= size {
-        let rest = size - place;
-        return n < rest / 2;
-    }
-    false
+    place <= size && n < (size - place) / 2
 }
 
 // Sets the part of `area` at `place` to the sums of the first 0, 1, .. readings of `channel`, each less
@@ -25,20 +22,19 @@ pub(crate) fn run_on(channel: &[f64], mean: f64, area: &mut [f64], place: usize)
     area[squares_place] = 0.0;
     let mut sum = 0.0;
     let mut sum_of_squares = 0.0;
-    let mut i = 0;
-    while i < channel.len() {
-        let y = channel[i] - mean;
-        sum = sum + y;
-        sum_of_squares = sum_of_squares + y * y;
-        i += 1;
-        area[place + i] = sum;
-        area[squares_place + i] = sum_of_squares;
+    for (i, reading) in channel.iter().enumerate() {
+        let y = *reading - mean;
+        sum += y;
+        sum_of_squares += y * y;
+        area[place + (i + 1)] = sum;
+        area[squares_place + (i + 1)] = sum_of_squares;
     }
 }
 
 // Sets the `channel.len() + 1` floats of `area` at `place` to the sums of the first 0, 1, .. readings of
 // `channel`, each less `mean`, and as many floats behind them to the sums of their squares. Where `area`
 // has no room for both, it stays as it was.
+#[tactic(auto, using(crate::proofs::SumLaws::has_room, crate::proofs::SumLaws::ran_written, crate::proofs::SumLaws::ran_unchanged))]
 pub fn cumulative_sums(channel: &[f64], mean: f64, area: &mut [f64], place: usize)
     ensures { Ran channel.now mean area.old area.new place }
 {

@@ -10,10 +10,8 @@ pub fn mean(channel: &[f64]) -> f64
     ensures { result ≡ mean_of channel.now }
 {
     let mut sum = 0.0;
-    let mut i = 0;
-    while i < channel.len() {
-        sum = sum + channel[i];
-        i += 1;
+    for reading in channel {
+        sum += *reading;
     }
     sum / nearest_u64_to_f64(channel.len() as u64)
 }

@@ -1,16 +1,17 @@
--- `c_answers::heard` meets its contract. Assumes nothing.
-use mathlib.Core.Path.{sym, ap, ◌∙◌}
-use Rattle.charts.specs.declared.Heard.{Heard}
+-- `c_answers::heard` meets its contract: a level that is not heard is told as 0. Assumes nothing.
+use mathlib.Core.Path.{◌≡◌, refl}
+use mathlib.Core.List.{[], ◌∷◌}
+use Prim.Native.Nat.{ℕ}
+use Rattle.std.specs.Prelude.{Ok, Option, Some, None, unwrap_or}
+use Rattle.refusals.specs.Said.{answered}
 use Rattle.charts.specs.Hearing.{heard_as}
 use Rattle.c_answers.specs.Told.{told_of, briefly, counted_of}
 use Rattle.c_answers.proofs.heard.Goals as goal
 
-pub returns-in-At : goal.returns-in-At
-returns-in-At c = c.brief.ensures ∙ ap briefly c.result.ensures ∙ sym (ap (λ (a : Heard). counted_of (heard_as a)) c.in-At.is)
-
-pub returns-in-NotHeard : goal.returns-in-NotHeard
+reads : (reading : Option ℕ) → briefly (told_of (answered (unwrap_or reading 0 ∷ []))) ≡ counted_of (heard_as (Ok reading))
 unfolding told_of
-returns-in-NotHeard c = c.brief-in-NotHeard.ensures ∙ ap briefly c.result-in-NotHeard.ensures ∙ sym (ap (λ (a : Heard). counted_of (heard_as a)) c.in-NotHeard.is)
+reads None = refl
+reads (Some n) = refl
 
-pub returns-in-Refused : goal.returns-in-Refused
-returns-in-Refused c = c.brief-in-Refused.ensures ∙ ap briefly c.refused.ensures ∙ sym (ap (λ (a : Heard). counted_of (heard_as a)) c.in-Refused.is)
+pub returns-in-Ok : goal.returns-in-Ok
+returns-in-Ok c = rw (c.brief.ensures, c.result.ensures, c.unwrap_or.ensures, c.in-Ok.is) (reads c.in-Ok.reading)

@@ -1,13 +1,12 @@
 -- `c_answers::spread_told` meets its contract: by the two cases of a spread. Assumes nothing.
-use mathlib.Core.Path.{sym, ap}
 use lib.Ieee.{of_bits}
 use Rattle.c_answers.specs.Told.{spread_told}
 use Rattle.c_answers.proofs.spread_told.Goals as goal
 
-pub returns-in-Absent : goal.returns-in-Absent
+pub returns-in-None : goal.returns-in-None
 unfolding spread_told of_bits
-returns-in-Absent c = sym (ap spread_told c.in-Absent.is)
+returns-in-None c = rw c.in-None.is
 
-pub returns-in-Of : goal.returns-in-Of
+pub returns-in-Some : goal.returns-in-Some
 unfolding spread_told
-returns-in-Of c = sym (ap spread_told c.in-Of.is)
+returns-in-Some c = rw c.in-Some.is

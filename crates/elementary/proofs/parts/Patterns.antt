@@ -1,5 +1,5 @@
 -- What code that has compared a value knows of its bit pattern. Assumes nothing.
-use Rattle.std.proofs.Common.{◌≡◌, ℕ, ◌*◌, ◌%◌, ◌^◌, ◌<◌, ◌≤◌, true, false, not, T, refl, ap, ◌∙◌, subst, inl, inr, lt_irrefl, mod-eq_of_lt, not-le_of_lt, arith, le-ltb}
+use Rattle.std.proofs.Common.{◌≡◌, ℕ, ◌*◌, ◌%◌, ◌^◌, ◌<◌, ◌≤◌, true, false, not, T, refl, sym, ap, ◌∙◌, subst, inl, inr, lt_irrefl, mod-eq_of_lt, not-le_of_lt, arith, le-ltb}
 use mathlib.Core.Bool.{false≢true}
 use lib.Ieee.{Float, nan, inf, fin, binary64, to_bits, nan_bits, fits, lt, is_nan}
 use lib.Ieee.Bits.{nan_bits_above}
@@ -45,3 +45,11 @@ module _ (x : Float) (f : T (fits binary64 x)) (above : lt +0 x ≡ true) where
     | inl p ↦ absurd (not-le_of_lt (pattern_of x f p).under h)
     | inr e ↦ e
   ]
+
+-- the same of an argument of a function, which the format holds
+module _ (x : Float) (e : fits binary64 x ≡ true) (above : lt +0 x ≡ true) where
+  pub argument_below : to_bits binary64 x < 2047 * 2 ^ 52 → Pattern x (to_bits binary64 x)
+  argument_below = pattern_below x (subst T (sym e) tt) above
+
+  pub argument_infinite : 2047 * 2 ^ 52 ≤ to_bits binary64 x → x ≡ inf false
+  argument_infinite = pattern_infinite x (subst T (sym e) tt) above

@@ -104,6 +104,10 @@ sign_turn x c r q rest d rest' h f l ed er = go (dec_le (2 * q + r / 2) rest)
         let w : q + (r / 2 - d / 2 ^ 63 * (r / 2)) ≡ q = ap (λ (k : ℕ). q + (r / 2 - k * (r / 2))) s.1 ∙ omega arith in
         subst (λ (k : ℕ). Found x (c - 1) (r / 2) k (rest' + rest')) (sym w) (subst (λ (k : ℕ). Found x (c - 1) (r / 2) q (k + k)) (sym z) (turn_no x c r q rest h f y))
 
+-- the same facts with another count of the digits that are left, where the two counts are equal
+pub with_left : {x c d r q rest : ℕ} → d ≡ c → Found x c r q rest → Found x d r q rest
+with_left {x} {c} {d} {r} {q} {rest} e f = subst (λ (z : ℕ). Found x z r q rest) (sym e) f
+
 -- after the last turn `r` is 1
 last : (x r q rest : ℕ) → Found x 0 r q rest → (2 * (q * q) + rest ≡ 2 * x) × (x < q * q + 2 * q + 1)
 last x r q rest f =

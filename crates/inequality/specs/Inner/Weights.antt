@@ -1,7 +1,7 @@
 -- The weights of the candidates as the areas give them, and the lowest of them, for the private functions. Definitions only.
-use Rattle.std.specs.Prelude.{ℕ, zero, suc, ◌+◌, ◌-◌, ◌*◌, ◌≤◌, ◌<◌, ◌≡◌, true, false, cond, List, ltb, length, get_or, Float}
+use Rattle.std.specs.Prelude.{ℕ, zero, suc, ◌+◌, ◌-◌, ◌*◌, ◌≤◌, ◌<◌, ◌≡◌, true, false, cond, List, ◌++◌, drop, ltb, length, get_or, Float}
 use Rattle.std.specs.Float.{nan}
-use Rattle.floats.specs.Numbers.{◌+ᶠ◌, ◌-ᶠ◌, ◌/ᶠ◌, ◌≤ᶠ◌, +0, -∞, of_whole}
+use Rattle.floats.specs.Numbers.{◌+ᶠ◌, ◌-ᶠ◌, ◌*ᶠ◌, ◌/ᶠ◌, ◌≤ᶠ◌, +0, -∞, of_whole}
 use Rattle.areas.specs.Parts.{part, tab, Frame}
 use Rattle.costs.specs.Costs.{cost_of, l2_cost, smallest_normal}
 use Rattle.costs.specs.declared.CostFunction.{CostFunction}
@@ -10,6 +10,8 @@ use Rattle.search_rules.specs.declared.Best.{Best}
 use Rattle.search_rules.specs.Minimum.{none_yet, better_of}
 use Rattle.search_rules.specs.Inequality.{old_enough}
 use Rattle.inequality.specs.declared.Plan.{Plan}
+use Rattle.inequality.specs.declared.views.Channel.{Channel}
+use Rattle.inequality.specs.declared.views.View.{View}
 
 -- the first `old` of `candidates` are at least `m` old at `t`, and the others are not
 pub record Parted (m t : ℕ) (candidates : List ℕ) (old : ℕ) : Type 0 where
@@ -36,34 +38,44 @@ unfoldable pub cost_by : CostFunction → List Float → ℕ → ℕ → ℕ →
 cost_by cost area w j tau t zero = +0
 cost_by cost area w j tau t (suc c) = cost_by cost area w j tau t c +ᶠ cost_of cost (segment_by area w (2 * c * w) j tau t)
 
--- where the parts of a channel stand that comes behind the one at `place`, with parts of `w` floats; the last argument says how many channels behind
-unfoldable pub later : ℕ → ℕ → ℕ → ℕ
-later w place zero = place
-later w place (suc r) = 2 * w + later w place r
-
--- the weight of the candidate `j`, of those in `area` at `p`, and its costs to `t` in some channels more, of which the first one's parts stand at `place`; the candidates stand in `ix` at `c`, and the argument before `j` says how many channels
-unfoldable pub added : CostFunction → List Float → List ℕ → ℕ → ℕ → ℕ → ℕ → ℕ → ℕ → ℕ → Float
-added cost area ix w place p c t zero j = get_or area (p + j) nan
-added cost area ix w place p c t (suc r) j = added cost area ix w place p c t r j +ᶠ cost_of cost (segment_by area w (later w place r) j (get_or ix (c + j) 0) t)
-
--- how many readings the candidate `j`, of those in `ix` at `c`, has up to `t`
-unfoldable pub length_by : List ℕ → ℕ → ℕ → ℕ → Float
-length_by ix c t j = of_whole (t - get_or ix (c + j) 0)
-
 -- `variance`, or the smallest normal number where it is at or below 0
 unfoldable pub raised : Float → Float
 raised variance = cond (variance ≤ᶠ +0) smallest_normal variance
 
--- the variance up to `t` of the candidate `first + i`, of those in `ix` at `c`, in the channel whose parts, of `w` floats each, stand in `area` at `place`
-unfoldable pub variance_by : List Float → List ℕ → ℕ → ℕ → ℕ → ℕ → ℕ → ℕ → Float
-variance_by area ix w place c t first i = raised (l2_cost (segment_by area w place (first + i) (get_or ix (c + (first + i)) 0) t) /ᶠ length_by ix c t (first + i))
+-- the cost of the candidate `j` of a view to its t, added over the first `channels` channels
+unfoldable pub costs_at : CostFunction → View → ℕ → ℕ → Float
+costs_at cost v channels j = cost_by cost v.parts.now v.w j (get_or v.candidates.now j 0) v.t channels
+
+-- the segment to t from the candidate `j` of a channel
+unfoldable pub segment_at : Channel → ℕ → Segment
+segment_at k j = record { length = of_whole (k.t - get_or k.candidates.now j 0); sum = k.sum -ᶠ get_or k.sums.now j nan; sum_of_squares = k.squared -ᶠ get_or k.squares.now j nan }
+
+-- the weight of the candidate `j`, of `weights`, and the cost of its segment
+unfoldable pub with_cost : CostFunction → Channel → List Float → ℕ → Float
+with_cost cost k weights j = get_or weights j nan +ᶠ cost_of cost (segment_at k j)
+
+-- the same of two channels
+unfoldable pub with_costs : CostFunction → Channel → Channel → List Float → ℕ → Float
+with_costs cost k next weights j = with_cost cost k weights j +ᶠ cost_of cost (segment_at next j)
+
+-- the weight of the candidate `j`, of `weights`, and its length times its logarithm
+unfoldable pub with_logarithm : Channel → List Float → List Float → ℕ → Float
+with_logarithm k logarithms weights j = get_or weights j nan +ᶠ of_whole (k.t - get_or k.candidates.now j 0) *ᶠ get_or logarithms j nan
+
+-- the variance of the segment from the candidate `j`
+unfoldable pub variance_at : Channel → ℕ → Float
+variance_at k j = raised (l2_cost (segment_at k j) /ᶠ (segment_at k j).length)
+
+-- `values` once the first `j` of them were written, with the values of `g`
+unfoldable pub filled : {A : Type 0} → (ℕ → A) → List A → ℕ → List A
+filled g values j = tab g j ++ drop j values
 
 -- the weight of the candidate `j` at `t`: F plus the cost for the first `old`, minus infinity for those behind them
 unfoldable pub weight_by : Plan → List Float → List ℕ → ℕ → ℕ → ℕ → Float
-weight_by q area ix old t j =
-    cond (ltb j old) (get_or area (q.f + j) nan +ᶠ cost_by q.cost area (q.n + 1) j (get_or ix (q.c + j) 0) t q.channels) -∞
+weight_by q area candidates old t j =
+    cond (ltb j old) (get_or area (q.f + j) nan +ᶠ cost_by q.cost area (q.n + 1) j (get_or candidates j 0) t q.channels) -∞
 
--- the best of the first `j` candidates, by the weights that the floats `xs` hold
-unfoldable pub lowest_by : Plan → List Float → List ℕ → ℕ → Best
-lowest_by q xs ix zero = none_yet
-lowest_by q xs ix (suc j) = better_of (lowest_by q xs ix j) (get_or xs (q.p + j) nan +ᶠ q.penalty) (get_or ix (q.c + j) 0)
+-- the best of the first `j` of `candidates`, by their `weights` and the `penalty`
+unfoldable pub lowest_by : Float → List Float → List ℕ → ℕ → Best
+lowest_by penalty weights candidates zero = none_yet
+lowest_by penalty weights candidates (suc j) = better_of (lowest_by penalty weights candidates j) (get_or weights j nan +ᶠ penalty) (get_or candidates j 0)

@@ -41,10 +41,6 @@ pub record Each (R : Float → Float → Type 0) (count : ℕ) (xs ys : List Flo
 pub record Plain (count : ℕ) (xs : List Float) : Type 0 where
   pub each : (i : ℕ) → i < count → plain (get_or xs i nan) ≡ true
 
--- `after` holds what `before` held at every index that is not below `from`
-pub record Kept (from : ℕ) (before after : List Float) : Type 0 where
-  pub same : (i : ℕ) → from ≤ i → get_or after i nan ≡ get_or before i nan
-
 -- what the last stage needs: `values` that are plain, their quotients in `ratios`, and the sums for those in `sums`
 pub record Ready (values ratios sums : List Float) : Type 0 where
   pub all_plain : Plain (length values) values

@@ -1,10 +1,8 @@
-use Prim.Native.Nat.{◌≤◌, ◌-◌}
-use lib.ListN.{length}
-use Rattle.ranges.specs.Inner.Blocks.{Taken}
+use mathlib.Core.Path.{◌≡◌}
+use Rattle.std.specs.Slice.Iter.{chunks_rest, chunks_size}
+use Rattle.ranges.specs.Inner.Blocks.{taken_in}
+use Rattle.ranges.proofs.RangeLaws.{none}
 use Rattle.ranges.proofs.range_of.Given as goal
 
-abbrev pub invariant-loop-start : goal.invariant-loop-start
-invariant-loop-start l = (l.start ≤ length l.channel) × Taken l.channel l.start l.range
-
-abbrev pub decreases-loop-start : goal.decreases-loop-start
-decreases-loop-start l = length l.channel - l.start
+abbrev pub invariant-loop-block : goal.invariant-loop-block
+invariant-loop-block l = (taken_in l.range (chunks_rest l.block-iterator) ≡ taken_in none l.channel) × (chunks_size l.block-iterator ≡ 64)

@@ -1,19 +1,16 @@
--- What the private functions below `range_of` promise one another: the range of a channel's first readings, and readings within a range. No public contract cites this file. Definitions only.
-use Rattle.std.specs.Prelude.{ℕ, ◌≤◌, ◌<◌, ◌≡◌, Bool, false, ◌||◌, List, get_or, Float}
-use Rattle.std.specs.Float.{nan}
+-- What the private functions below `range_of` promise one another: a range with more readings taken in, and readings beyond a range. No public contract cites this file. Definitions only.
+use Rattle.std.specs.Prelude.{Bool, ◌||◌, cond, fold, List, Float}
 use Rattle.floats.specs.Numbers.{◌<ᶠ◌}
 use Rattle.ranges.specs.declared.Range.{Range}
-use Rattle.ranges.specs.Ranges.{lowest_to, highest_to}
 
--- `x` is below `lo` or above `hi`
-abbrev pub beyond : Float → Float → Float → Bool
-beyond lo hi x = (x <ᶠ lo) || (hi <ᶠ x)
+-- `x` is below `range` or above it
+abbrev pub beyond : Range → Float → Bool
+beyond range x = (x <ᶠ range.lo) || (range.hi <ᶠ x)
 
--- none of the readings `xs[start..end]` is beyond `range`
-pub record Within (xs : List Float) (start end : ℕ) (range : Range) : Type 0 where
-  pub within : (i : ℕ) → start ≤ i → i < end → beyond range.lo range.hi (get_or xs i nan) ≡ false
+-- `range` with `x` taken in, by one comparison of each of its values
+abbrev pub with_reading : Range → Float → Range
+with_reading range x = record { lo = cond (x <ᶠ range.lo) x range.lo; hi = cond (range.hi <ᶠ x) x range.hi }
 
--- `range` is that of the first `i` readings of `xs`
-pub record Taken (xs : List Float) (i : ℕ) (range : Range) : Type 0 where
-  pub lowest : range.lo ≡ lowest_to xs i
-  pub highest : range.hi ≡ highest_to xs i
+-- `range` with the readings `xs` taken in, in their order
+abbrev pub taken_in : Range → List Float → Range
+taken_in range xs = fold with_reading range xs

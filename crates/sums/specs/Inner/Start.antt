@@ -1,5 +1,5 @@
 -- The sum of a channel from another start than +0: Rust's `Iterator::sum` starts at -0 or at +0, by its release. Definitions only.
-use Rattle.std.specs.Prelude.{ℕ, zero, suc, T, List, length, get_or, slice_index_or, Float}
+use Rattle.std.specs.Prelude.{ℕ, zero, suc, T, List, length, get_or, Float}
 use Rattle.std.specs.Float.{nan, binary64}
 use Rattle.std.specs.Float.Ieee.{fits}
 use Rattle.floats.specs.Numbers.{◌+ᶠ◌, ◌/ᶠ◌, of_whole}
@@ -14,4 +14,4 @@ mean_from start xs = sum_from start xs (length xs) /ᶠ of_whole (length xs)
 
 -- every reading of `xs` is a value of binary64, as those of a lent slice are
 abbrev pub EachFits : List Float → Type 0
-EachFits xs = (i : ℕ) → T (fits binary64 (slice_index_or xs i nan))
+EachFits xs = (i : ℕ) → T (fits binary64 (get_or xs i nan))

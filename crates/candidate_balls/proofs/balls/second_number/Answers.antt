@@ -8,6 +8,6 @@ pub returns-then-channels-eq1 : goal.returns-then-channels-eq1
 unfolding second_number of_bits
 returns-then-channels-eq1 c = rw (eq-eqb _ _ c.if-channels-eq1.true) c.sqrt.ensures
 
-pub returns : goal.returns
+pub returns-else-channels-eq1 : goal.returns-else-channels-eq1
 unfolding second_number
-returns c = rw (ne_eqb _ _ c.if-channels-eq1.false) refl
+returns-else-channels-eq1 c = rw (ne_eqb _ _ c.if-channels-eq1.false) refl

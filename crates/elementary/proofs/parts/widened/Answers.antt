@@ -1,28 +1,13 @@
 -- `elementary::parts::widened` meets its contract. The loop's invariant: `significand` is `count` doubled `doublings` times, and has at most 53 digits. Assumes nothing.
-use Rattle.std.proofs.Common.{sym, mul-one, arith}
+use Rattle.std.proofs.Common.{arith}
 use Rattle.elementary.proofs.parts.Shifts.{few, twice_more, shifted}
 use Rattle.elementary.proofs.parts.widened.Goals as goal
-
-pub loop-significand-init : goal.loop-significand-init
-loop-significand-init c = (sym (mul-one c.args.count), omega arith, omega arith, omega arith)
-
-pub overflow_add-significand : goal.overflow_add-significand
-overflow_add-significand c = omega arith
-
-pub overflow_add-doublings : goal.overflow_add-doublings
-overflow_add-doublings c = omega arith
-
-pub loop-significand-smaller : goal.loop-significand-smaller
-loop-significand-smaller c = omega arith
 
 pub loop-significand-preserved : goal.loop-significand-preserved
 loop-significand-preserved c =
     let at = c in
     let i = at.loop-significand.invariant in
     (twice_more at.args.count at.loop-significand.significand at.loop-significand.doublings i.0, omega arith, omega arith, omega (arith, few at.args.count at.loop-significand.significand at.loop-significand.doublings at.requires.0 i.0 c.loop-significand-test.true))
-
-pub overflow_sub-result : goal.overflow_sub-result
-overflow_sub-result c = omega arith
 
 pub returns : goal.returns
 returns c =

@@ -1,49 +1,38 @@
 -- `elementary::root::sqrt` meets its contract. Assumes nothing.
-use Rattle.std.proofs.Common.{ℕ, ◌*◌, ◌^◌, ◌<◌, ◌≤◌, T, sym, ap, ◌∙◌, subst, arith}
-use lib.Ieee.{binary64, of_bits, to_bits, fits}
+use Rattle.std.proofs.Common.{ℕ, ◌*◌, ◌^◌, ◌≤◌, sym, ap, ◌∙◌, arith}
+use lib.Ieee.{binary64, of_bits, to_bits}
 use Rattle.elementary.specs.Root.{near_root}
 use Rattle.floats.proofs.Order.Zero.{zero_by_zero}
-use Rattle.elementary.proofs.parts.Values.{Pattern, count_high}
+use Rattle.elementary.proofs.parts.Values.{count_high}
 use Rattle.elementary.proofs.parts.Shifts.{high_root}
-use Rattle.elementary.proofs.parts.Patterns.{more_is_no_nan, pattern_below, pattern_infinite}
+use Rattle.elementary.proofs.parts.Patterns.{argument_below, argument_infinite}
 use Rattle.elementary.proofs.root.Cases.{sqrt_of_pattern, sqrt_infinite, sqrt_zero, sqrt_negative}
 use Rattle.elementary.proofs.root.sqrt.Goals as goal
-
-pub float_to_bits-pattern : goal.float_to_bits-pattern
-float_to_bits-pattern c = more_is_no_nan _ _ c.if-x.true
 
 pub at_the_ends-requires : goal.at_the_ends-requires
 unfolding of_bits
 at_the_ends-requires c =
-    let held : T (fits binary64 c.args.x) = subst T (sym c.well_formed.0.1) tt in
-    let pattern : to_bits binary64 c.args.x < 2047 * 2 ^ 52 → Pattern c.args.x (to_bits binary64 c.args.x) = λ h. pattern_below c.args.x held c.if-x.true h in
-    ((pattern c.if-pattern-lt9218868437227405312.true).some, c.if-pattern-lt9218868437227405312.true)
+    ((argument_below _ c.well_formed.0.1 c.if-x.true c.if-pattern-lt9218868437227405312.true).some, c.if-pattern-lt9218868437227405312.true)
 
 pub returns-then-wrapping_sub_u64-lt9007199254740992000 : goal.returns-then-wrapping_sub_u64-lt9007199254740992000
 unfolding of_bits
 returns-then-wrapping_sub_u64-lt9007199254740992000 c =
-    let held : T (fits binary64 c.args.x) = subst T (sym c.well_formed.0.1) tt in
-    let pattern : to_bits binary64 c.args.x < 2047 * 2 ^ 52 → Pattern c.args.x (to_bits binary64 c.args.x) = λ h. pattern_below c.args.x held c.if-x.true h in
     let t = c in
     let b = to_bits binary64 t.args.x in
     let l : 2 ^ 52 ≤ b = omega arith in
     c.rooted.ensures
     ∙ ap near_root (sym (ap (λ (z : ℕ). z * 2 ^ 1074) (count_high b l) ∙ high_root b l))
-    ∙ sym (sqrt_of_pattern _ b (pattern (omega arith)))
+    ∙ sym (sqrt_of_pattern _ b (argument_below _ c.well_formed.0.1 t.if-x.true (omega arith)))
 
 pub returns-then-pattern-lt9218868437227405312 : goal.returns-then-pattern-lt9218868437227405312
 unfolding of_bits
 returns-then-pattern-lt9218868437227405312 c =
-    let held : T (fits binary64 c.args.x) = subst T (sym c.well_formed.0.1) tt in
-    let pattern : to_bits binary64 c.args.x < 2047 * 2 ^ 52 → Pattern c.args.x (to_bits binary64 c.args.x) = λ h. pattern_below c.args.x held c.if-x.true h in
-    c.at_the_ends.ensures ∙ sym (sqrt_of_pattern _ _ (pattern c.if-pattern-lt9218868437227405312.true))
+    c.at_the_ends.ensures ∙ sym (sqrt_of_pattern _ _ (argument_below _ c.well_formed.0.1 c.if-x.true c.if-pattern-lt9218868437227405312.true))
 
 pub returns-else-pattern-lt9218868437227405312 : goal.returns-else-pattern-lt9218868437227405312
 unfolding of_bits
 returns-else-pattern-lt9218868437227405312 c =
-    let held : T (fits binary64 c.args.x) = subst T (sym c.well_formed.0.1) tt in
-    let t = c in
-    sqrt_infinite _ (pattern_infinite t.args.x held t.if-x.true c.if-pattern-lt9218868437227405312.false)
+    sqrt_infinite _ (argument_infinite _ c.well_formed.0.1 c.if-x.true c.if-pattern-lt9218868437227405312.false)
 
 pub returns-then-x-2 : goal.returns-then-x-2
 unfolding of_bits

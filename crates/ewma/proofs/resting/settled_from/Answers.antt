@@ -1,6 +1,6 @@
 -- `ewma::resting::settled_from` meets its contract. The loop's invariant: the places that are left give the same place. Assumes nothing.
 use mathlib.Core.Path.{◌≡◌, refl}
-use Prim.Native.Nat.{ℕ, zero, suc, ◌≤◌, ◌<◌, ◌*◌, ◌-◌, ◌^◌}
+use Prim.Native.Nat.{ℕ, zero, suc, ◌≤◌, ◌<◌, ◌+◌, ◌*◌, ◌-◌, ◌^◌}
 use native.Mathlib.Nat.{not-suc-le-zero, mul-le-mul_left, pow-suc}
 use native.Mathlib.Numerals.{sub-one}
 use native.Mathlib.Omega.{arith}
@@ -38,8 +38,8 @@ doubled (suc left) place h e = rw sub-one (shared (2 ^ left) (rw (pow-suc 2 left
     shared : (w : ℕ) → place * (w * 2) ≡ 8192 → 2 * place * w ≡ 8192
     shared w e = omega (arith, e)
 
-pub loop-left-init : goal.loop-left-init
-loop-left-init c = (refl, refl)
+pub loop-turn-init : goal.loop-turn-init
+loop-turn-init c = (refl, refl)
 
 pub float_from_bits-t-6 : goal.float_from_bits-t-6
 unfolding nan_bits
@@ -47,22 +47,18 @@ float_from_bits-t-6 c = tt
 
 pub returns-then-faded : goal.returns-then-faded
 unfolding of_bits
-returns-then-faded c = here _ _ _ _ c.loop-left-test.true c.if-faded.true c.loop-left.invariant.0
+returns-then-faded c = here _ _ _ _ (omega arith) c.if-faded.true c.loop-turn.invariant.0
 
 pub overflow_mul-place : goal.overflow_mul-place
-overflow_mul-place c = let p = few _ _ c.loop-left.invariant.1 in omega (arith, p)
+overflow_mul-place c = let p = few _ _ c.loop-turn.invariant.1 in omega (arith, p)
 
-pub overflow_sub-left : goal.overflow_sub-left
-overflow_sub-left c = c.loop-left-test.true
-
-pub loop-left-smaller : goal.loop-left-smaller
-loop-left-smaller c = omega (arith, c.loop-left-test.true)
-
-pub loop-left-preserved : goal.loop-left-preserved
+pub loop-turn-preserved : goal.loop-turn-preserved
 unfolding of_bits
-loop-left-preserved c =
-    let at = c.loop-left in
-    (further _ _ _ _ c.loop-left-test.true c.if-faded.false at.invariant.0, doubled at.left at.place c.loop-left-test.true at.invariant.1)
+loop-turn-preserved c =
+    let at = c.loop-turn in
+    let more : 0 < 13 - at._turn = omega arith in
+    let one : 13 - (at._turn + 1) ≡ 13 - at._turn - 1 = omega arith in
+    (rw one (further _ _ _ _ more c.if-faded.false at.invariant.0), rw one (doubled (13 - at._turn) at.place more at.invariant.1))
 
 pub returns : goal.returns
-returns c = nowhere _ _ _ _ c.loop-left-test.false c.loop-left.invariant.0
+returns c = nowhere _ _ _ _ (omega arith) c.loop-turn.invariant.0

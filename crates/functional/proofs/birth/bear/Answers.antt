@@ -1,31 +1,24 @@
-use mathlib.Core.Path.{◌≡◌, refl, sym, ap, ◌∙◌}
-use native.Mathlib.Omega.{arith}
+use Rattle.std.proofs.Common.{◌≡◌, sym, ap, ◌∙◌, length, rules, arith}
 use Rattle.candidate.specs.Dominated.{is_dominated}
-use Rattle.functional.specs.Inner.Held.{born_from}
 use Rattle.functional.proofs.BirthLaws.{born_cut, borne_gone, borne_stored, borne_full}
 use Rattle.functional.proofs.birth.bear.Goals as goal
+use Rattle.functional.proofs.birth.bear.Goals.{then-kept-slots, else-kept-slots}
 
 pub returns-then-is_dominated : goal.returns-then-is_dominated
 returns-then-is_dominated c =
-    let cut_is : let a = c.args in c.cut_losing-cut.result ≡ (born_from a.plan a.born.now a.balls a.b).box = let s = c in
-    born_cut s.args.plan s.args.born.now s.args.balls s.args.b _ s.requires.5 s.requires.0 c.cut_losing-cut.ensures in
-    let said : let a = c.args in c.is_dominated.result ≡ is_dominated a.plan.channels (born_from a.plan a.born.now a.balls a.b).box = c.is_dominated.ensures ∙ ap (is_dominated _) (cut_is) in
-    borne_gone (sym said ∙ c.if-is_dominated.true)
-
-pub returns-then-kept-plan : goal.returns-then-kept-plan
-returns-then-kept-plan c =
-    let cut_is : let a = c.args in c.cut_losing-cut.result ≡ (born_from a.plan a.born.now a.balls a.b).box = let s = c in
-    born_cut s.args.plan s.args.born.now s.args.balls s.args.b _ s.requires.5 s.requires.0 c.cut_losing-cut.ensures in
-    let said : let a = c.args in c.is_dominated.result ≡ is_dominated a.plan.channels (born_from a.plan a.born.now a.balls a.b).box = c.is_dominated.ensures ∙ ap (is_dominated _) (cut_is) in
-    let s = c in
-    let a = s.args in
-    let p = s.requires in
-    let d = c in
-    borne_stored a.plan a.pool.now _ a.born.now a.indices.now _ a.kept a.balls a.b _ _ (sym said ∙ c.if-is_dominated.false) (cut_is) p.5 p.6 c.place.ensures refl (omega (arith, p.4, c.if-kept-plan.true)) p.3 (omega arith)
+    let a = c.args in
+    let long : length a.born.now ≡ 192 = search rules in
+    let cut = born_cut a.plan a.born.now a.balls a.b _ c.requires.3 long c.cut_losing-cut.ensures in
+    borne_gone (sym (c.is_dominated.ensures ∙ ap (is_dominated a.plan.channels) cut) ∙ c.if-is_dominated.true)
 
 pub returns : goal.returns
 returns c =
-    let cut_is : let a = c.args in c.cut_losing-cut.result ≡ (born_from a.plan a.born.now a.balls a.b).box = let s = c in
-    born_cut s.args.plan s.args.born.now s.args.balls s.args.b _ s.requires.5 s.requires.0 c.cut_losing-cut.ensures in
-    let said : let a = c.args in c.is_dominated.result ≡ is_dominated a.plan.channels (born_from a.plan a.born.now a.balls a.b).box = c.is_dominated.ensures ∙ ap (is_dominated _) (cut_is) in
-    borne_full (sym said ∙ c.if-is_dominated.false) c.if-kept-plan.false
+    let a = c.args in
+    let p = c.requires in
+    let long : length a.born.now ≡ 192 = search rules in
+    let cut = born_cut a.plan a.born.now a.balls a.b _ p.3 long c.cut_losing-cut.ensures in
+    let left = sym (c.is_dominated.ensures ∙ ap (is_dominated a.plan.channels) cut) ∙ c.if-is_dominated.false in
+    elim c.if-kept-slots.branch [
+      | then-kept-slots w ↦ rw (w.entries-is, w.slots-is) (borne_stored a.plan a.slots.now _ a.born.now a.entries.now _ a.kept a.balls a.b _ p.0 left cut p.3 w.place.ensures c.told-slots w.if-kept-slots.true (omega arith))
+      | else-kept-slots w ↦ rw (w.entries-is, w.slots-is) (borne_full left w.if-kept-slots.false)
+    ]

@@ -5,6 +5,6 @@ use Rattle.functional.proofs.marks.remarked.Goals as goal
 pub returns-then-stayed : goal.returns-then-stayed
 returns-then-stayed c = rw c.if-stayed.true refl
 
-pub returns : goal.returns
+pub returns-else-stayed : goal.returns-else-stayed
 unfolding balls_in
-returns c = rw c.if-stayed.false refl
+returns-else-stayed c = rw c.if-stayed.false refl

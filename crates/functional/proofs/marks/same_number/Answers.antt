@@ -34,5 +34,5 @@ returns-then-a-b c e =
     ∙ ap (of_bits binary64) (eqb-true _ _ e)
     ∙ of_bits-to_bits binary64 s.args.b (subst T (sym s.well_formed.1.0.1) tt)
 
-pub returns : goal.returns
-returns c e = absurd (false≢true e)
+pub returns-else-a-b : goal.returns-else-a-b
+returns-else-a-b c e = absurd (false≢true (sym c.if-a-b.false ∙ e))

@@ -1,17 +1,10 @@
-use mathlib.Core.Path.{◌≡◌}
-use Prim.Native.Nat.{◌≤◌, ◌-◌, ◌+◌}
-use lib.ListN.{get_or}
+use Rattle.std.proofs.Common.{◌≡◌, true, get_or, length}
 use lib.Ieee.{nan}
-use mathlib.Core.Bool.{true}
 use Rattle.floats.specs.Numbers.{◌+ᶠ◌}
-use Rattle.areas.specs.Parts.{part}
 use Rattle.search_rules.specs.Minimum.{scan_to}
 use Rattle.search_rules.specs.Functional.{price}
 use Rattle.functional.specs.Inner.Held.{task, taus}
 use Rattle.functional.proofs.steps.best_of.Given as goal
 
-abbrev pub invariant-loop-j : goal.invariant-loop-j
-invariant-loop-j l = (l.j ≤ l.count) × (l.best ≡ scan_to (λ tau. true) (λ tau. get_or (part l.floats l.plan.f (l.plan.n + 1)) tau nan +ᶠ price (task l.run l.plan) tau l.t +ᶠ l.plan.penalty) (taus l.indices (l.plan.n + 1) l.count) l.j)
-
-abbrev pub decreases-loop-j : goal.decreases-loop-j
-decreases-loop-j l = l.count - l.j
+abbrev pub invariant-loop-tau : goal.invariant-loop-tau
+invariant-loop-tau l = l.best ≡ scan_to (λ tau. true) (λ tau. get_or l.f tau nan +ᶠ price (task l.plan) tau l.t +ᶠ l.plan.penalty) (taus l.entries (length l.entries)) l.tau-index

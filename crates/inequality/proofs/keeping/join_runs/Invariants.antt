@@ -1,10 +1,5 @@
-use mathlib.Core.Path.{◌≡◌}
-use Prim.Native.Nat.{◌≤◌, ◌*◌, ◌-◌, ◌+◌}
 use Rattle.inequality.specs.Inner.Staying.{Joined}
 use Rattle.inequality.proofs.keeping.join_runs.Given as goal
 
 abbrev pub invariant-loop-run : goal.invariant-loop-run
-invariant-loop-run l = (l.run ≤ l.runs) × (l.base ≡ l.run * (l.plan.n + 1)) × Joined l.plan l.initial.floats l.floats l.kept l.t l.run
-
-abbrev pub decreases-loop-run : goal.decreases-loop-run
-decreases-loop-run l = l.runs - l.run
+invariant-loop-run l = Joined l.plan l.initial.parts l.parts l.kept l.t l.run

@@ -1,10 +1,7 @@
-use Prim.Native.Nat.{◌≤◌, ◌-◌}
-use lib.Ieee.{nan}
+use Prim.Native.Nat.{◌≤◌}
+use lib.ListN.{length}
 use Rattle.inequality.specs.Inner.Staying.{Retained}
 use Rattle.inequality.proofs.keeping.retain_run.Given as goal
 
 abbrev pub invariant-loop-i : goal.invariant-loop-i
-invariant-loop-i l = (l.next ≤ l.i) × (l.i ≤ l.count) × Retained l.bound l.initial.floats l.p nan l.initial.floats l.floats l.base l.count l.i l.kept
-
-abbrev pub decreases-loop-i : goal.decreases-loop-i
-decreases-loop-i l = l.count - l.i
+invariant-loop-i g l = record { few : l.kept ≤ l.i; each : (d : _) → Retained l.bound l.weights 0 d l.initial.values l.values 0 (length l.initial.values) l.i l.kept }

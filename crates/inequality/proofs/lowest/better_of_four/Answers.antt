@@ -4,4 +4,4 @@ use Rattle.inequality.proofs.LowestLaws.{lowest_four}
 use Rattle.inequality.proofs.lowest.better_of_four.Goals as goal
 
 pub returns : goal.returns
-returns c = let a = c.args in lowest_four a.plan a.floats.now a.indices.now a.j _ _ a.best c.requires.3 refl refl (sym c.one_below.ensures ∙ c.if-one_below.false)
+returns c = let a = c.args in lowest_four a.penalty a.weights.now a.candidates.now a.j _ _ a.best c.requires.2 refl refl (sym c.one_below.ensures ∙ c.if-one_below.false)

@@ -1,13 +1,9 @@
 use mathlib.Core.Path.{◌≡◌}
+use mathlib.Core.Bool.{false}
 use Prim.Native.Nat.{ℕ, ◌≤◌, ◌<◌}
 use lib.ListN.{length, get_or}
-use Rattle.areas.specs.Parts.{part}
-use mathlib.Core.Bool.{false}
 use Rattle.search_rules.specs.Inequality.{old_enough}
 use Rattle.inequality.proofs.weights.old_count.Given as goal
 
-abbrev pub invariant-loop-old : goal.invariant-loop-old
-invariant-loop-old l = (l.old ≤ l.count) × ((j : ℕ) → l.old ≤ j → j < length (part l.indices l.c l.count) → old_enough l.m l.t (get_or (part l.indices l.c l.count) j 0) ≡ false)
-
-abbrev pub decreases-loop-old : goal.decreases-loop-old
-decreases-loop-old l = l.old
+abbrev pub invariant-loop-last : goal.invariant-loop-last
+invariant-loop-last l = (j : ℕ) → l.last ≤ j → j < length l.candidates → old_enough l.m l.t (get_or l.candidates j 0) ≡ false

@@ -5,20 +5,10 @@ use native.Mathlib.Omega.{arith}
 use lib.Dec.{T}
 use lib.IntN.{pos, ◌-ℤ◌}
 use lib.Ieee.{binary64, of_int}
-use Rattle.elementary.proofs.Laws.{small_signed, difference_fits, difference_kept}
+use Rattle.elementary.proofs.Laws.{difference_kept}
 use Rattle.logarithms.specs.Inner.Stages.{exponent_of}
 use Rattle.logarithms.proofs.PlainLaws.{high_bound}
 use Rattle.logarithms.proofs.plain.exponent.Goals as goal
-
-pub overflow_cast-result : goal.overflow_cast-result
-overflow_cast-result c =
-    let small : c.carried.result / 2 ^ 52 + 1073 ≤ 4096 = omega (arith, c.carried.ensures, high_bound c.args.value (subst T (sym c.well_formed.0.1) tt) c.requires) in
-    record { sfits = omega (arith, small) }
-
-pub overflow_sub-result : goal.overflow_sub-result
-overflow_sub-result c =
-    let small : c.carried.result / 2 ^ 52 + 1073 ≤ 4096 = omega (arith, c.carried.ensures, high_bound c.args.value (subst T (sym c.well_formed.0.1) tt) c.requires) in
-    rw (small_signed (c.carried.result / 2 ^ 52 + 1073) small) (difference_fits (c.carried.result / 2 ^ 52 + 1073) small)
 
 pub returns : goal.returns
 unfolding exponent_of

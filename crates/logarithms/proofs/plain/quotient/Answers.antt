@@ -7,9 +7,6 @@ use Rattle.elementary.proofs.Laws.{low_pattern}
 use Rattle.logarithms.specs.Inner.Stages.{quotient_by, quotient_of}
 use Rattle.logarithms.proofs.plain.quotient.Goals as goal
 
-pub overflow_add-m : goal.overflow_add-m
-overflow_add-m c = omega arith
-
 pub float_from_bits-m : goal.float_from_bits-m
 float_from_bits-m c = low_pattern (c.carried.result % 2 ^ 52 + 0x3fe6_a09e_667f_3bce) (omega arith)
 

@@ -6,9 +6,6 @@ use lib.Ieee.{binary64}
 use Rattle.medians.proofs.MagnitudeLaws.{larger_opposite}
 use Rattle.medians.proofs.middle.apart.Goals as goal
 
-pub upper-requires : goal.upper-requires
-upper-requires c = tt
-
 pub returns : goal.returns
 unfolding of_bits
 returns c = c.upper.ensures ∙ larger_opposite _ (sub-fits binary64 c.args.x c.args.y)

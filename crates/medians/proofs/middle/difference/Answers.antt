@@ -3,7 +3,6 @@ use mathlib.Core.Path.{◌≡◌, refl, ap, ◌∙◌}
 use Prim.Native.Nat.{◌-◌}
 use native.Mathlib.Omega.{arith}
 use lib.ListN.{length, length-set}
-use borrow.Author.Rules.{rules}
 use Rattle.areas.specs.Parts.{tab}
 use Rattle.medians.specs.Median.{difference_at, differences}
 use Rattle.medians.proofs.MedianLaws.{differences_more, whole_front}
@@ -11,21 +10,13 @@ use Rattle.medians.proofs.middle.difference.Goals as goal
 
 pub loop-i-init : goal.loop-i-init
 unfolding tab
-loop-i-init c = (search rules, refl, c.requires, refl)
-
-pub loop-i-smaller : goal.loop-i-smaller
-loop-i-smaller c = simp length-set (omega arith)
+loop-i-init c = (refl, refl)
 
 pub loop-i-preserved : goal.loop-i-preserved
 unfolding difference_at
 loop-i-preserved c =
     let inv = c.loop-i.invariant in
-    let channel = c.args.channel.now in (
-      simp length-set (omega arith),
-      simp length-set inv.1,
-      simp length-set inv.2,
-      differences_more channel _ _ _ c.loop-i-test.true c.apart.ensures inv.3,
-    )
+    (simp length-set inv.0, differences_more c.args.channel.now _ _ _ (omega arith) c.apart.ensures inv.1)
 
 pub returns : goal.returns
 unfolding differences
@@ -33,4 +24,4 @@ returns c =
     let channel = c.args.channel.now in
     let e : c.loop-i.i ≡ length c.loop-i.run = omega arith in
     let f : c.loop-i.i ≡ length channel - 1 = omega arith in
-    whole_front _ _ _ e c.loop-i.invariant.3 ∙ ap (tab (difference_at channel)) f
+    whole_front _ _ _ e c.loop-i.invariant.1 ∙ ap (tab (difference_at channel)) f

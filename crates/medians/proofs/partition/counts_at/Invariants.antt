@@ -1,12 +1,8 @@
 use mathlib.Core.Path.{◌≡◌}
-use Prim.Native.Nat.{◌≤◌, ◌-◌}
-use lib.ListN.{length, take}
-use lib.Ieee.{Float, lt, le}
-use Rattle.medians.specs.Inner.Ranks.{count}
+use Prim.Native.Nat.{◌≤◌}
+use lib.ListN.{take}
+use Rattle.medians.specs.Inner.Ranks.{count_below, count_upto}
 use Rattle.medians.proofs.partition.counts_at.Given as goal
 
-abbrev pub invariant-loop-i : goal.invariant-loop-i
-invariant-loop-i l = (l.i ≤ length l.run) × (l.below ≤ l.i) × (l.upto ≤ l.i) × (l.below ≡ count (λ (y : Float). lt y l.x) (take l.i l.run)) × (l.upto ≡ count (λ (y : Float). le y l.x) (take l.i l.run))
-
-abbrev pub decreases-loop-i : goal.decreases-loop-i
-decreases-loop-i l = length l.run - l.i
+abbrev pub invariant-loop-value : goal.invariant-loop-value
+invariant-loop-value l = (l.below ≤ l.value-index) × (l.upto ≤ l.value-index) × (l.below ≡ count_below l.x (take l.value-index l.run)) × (l.upto ≡ count_upto l.x (take l.value-index l.run))

@@ -1,10 +1,6 @@
-use mathlib.Core.Path.{◌≡◌}
-use Prim.Native.Nat.{◌≤◌, ◌-◌}
+use Rattle.std.proofs.Common.{◌≡◌}
 use Rattle.noise.specs.Noise.{noise_sum_to}
 use Rattle.noise.proofs.variance.add_noise.Given as goal
 
 abbrev pub invariant-loop-k : goal.invariant-loop-k
-invariant-loop-k l = (l.k ≤ l.channels) × (l.sum ≡ noise_sum_to l.run l.n l.k) × (l.area ≡ l.initial.area)
-
-abbrev pub decreases-loop-k : goal.decreases-loop-k
-decreases-loop-k l = l.channels - l.k
+invariant-loop-k l = (l.sum ≡ noise_sum_to l.run l.n l.k) × (l.area ≡ l.initial.area)

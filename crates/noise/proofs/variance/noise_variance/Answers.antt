@@ -1,12 +1,11 @@
 -- `noise::variance::noise_variance` meets its contract, with room and without. Assumes nothing.
-use mathlib.Core.Path.{◌≡◌, sym, ap, ◌∙◌}
+use mathlib.Core.Path.{◌≡◌, refl, sym, ap, ◌∙◌}
 use Prim.Native.Nat.{◌-◌, ◌+◌}
 use native.Mathlib.Omega.{arith}
 use lib.ListN.{length}
 use lib.Ieee.{of_bits}
 use Rattle.floats.specs.Numbers.{ratio}
 use Rattle.floats.specs.MaxMin.{larger}
-use Rattle.floats.proofs.Order.Zero.{zero_by_zero}
 use Rattle.ranges.specs.declared.Range.{Range}
 use Rattle.noise.specs.Noise.{spread_of, floor_of, has_room}
 use Rattle.noise.proofs.NoiseLaws.{has_room_lem, noise_of_few, noise_of_many, nothing_cleared, part_median, part_cleared, lent_found, lent_nothing}
@@ -16,28 +15,13 @@ use Rattle.noise.proofs.variance.noise_variance.Goals as goal
 pub returns-then-channel-lt2 : goal.returns-then-channel-lt2
 unfolding of_bits
 returns-then-channel-lt2 c =
-    let there : let a = c.args in has_room (length a.area.now) (length a.channel.now) a.place ≡ true = sym c.has_room.ensures ∙ c.if-has_room.true in
+    let there : let a = c.args in has_room (length a.area.now) (length a.channel.now) a.place ≡ true = sym c.has_room.ensures ∙ c.if-not-has_room.false in
     lent_found there (noise_of_few _ c.if-channel-lt2.true) (nothing_cleared _ _ _ c.if-channel-lt2.true)
 
-pub overflow_add-end : goal.overflow_add-end
-overflow_add-end c =
-    let there : let a = c.args in has_room (length a.area.now) (length a.channel.now) a.place ≡ true = sym c.has_room.ensures ∙ c.if-has_room.true in
-    omega (arith, has_room_lem _ _ _ there)
-
-pub offset_bounds-area-place : goal.offset_bounds-area-place
-offset_bounds-area-place c =
-    let there : let a = c.args in has_room (length a.area.now) (length a.channel.now) a.place ≡ true = sym c.has_room.ensures ∙ c.if-has_room.true in
-    omega (arith, has_room_lem _ _ _ there)
-
-pub slice_bounds-median_difference-end : goal.slice_bounds-median_difference-end
-slice_bounds-median_difference-end c =
-    let there : let a = c.args in has_room (length a.area.now) (length a.channel.now) a.place ≡ true = sym c.has_room.ensures ∙ c.if-has_room.true in
-    has_room_lem _ _ _ there
-
-pub returns-then-has_room : goal.returns-then-has_room
+pub returns : goal.returns
 unfolding spread_of floor_of of_bits ratio
-returns-then-has_room c =
-    let there : let a = c.args in has_room (length a.area.now) (length a.channel.now) a.place ≡ true = sym c.has_room.ensures ∙ c.if-has_room.true in
+returns c =
+    let there : let a = c.args in has_room (length a.area.now) (length a.channel.now) a.place ≡ true = sym c.has_room.ensures ∙ c.if-not-has_room.false in
     let a = c.args in
     let m = c.median_difference-median in
     let e : a.place + (length a.channel.now - 1) - a.place ≡ length a.channel.now - 1 = omega arith in
@@ -47,5 +31,6 @@ returns-then-has_room c =
     let f = c.max-least.ensures ∙ ap (λ (r : Range). larger (spread_of m.result) (floor_of r)) c.range_of-range.ensures in
     lent_found there (noise_of_many _ _ _ many found.0 f) (part_cleared _ _ _ _ _ room e found.1)
 
-pub returns : goal.returns
-returns c = lent_nothing (sym c.has_room.ensures ∙ c.if-has_room.false) zero_by_zero
+pub returns-then-not-has_room : goal.returns-then-not-has_room
+unfolding of_bits
+returns-then-not-has_room c = lent_nothing (sym c.has_room.ensures ∙ c.if-not-has_room.true) refl

@@ -1,9 +1,7 @@
-use Rattle.std.proofs.Common.{◌≡◌, ◌-◌, ◌≤◌}
-use Rattle.sums.specs.Sums.{centred_to, squares_to}
+use Rattle.std.proofs.Common.{◌≡◌, take}
+use Rattle.std.specs.List.{fold}
+use Rattle.piece.specs.Inner.Running.{with_reading}
 use Rattle.piece.proofs.segment_of.advance.Given as goal
 
-abbrev pub invariant-loop-i : goal.invariant-loop-i
-invariant-loop-i l = (l.i ≤ l.to) × (l.sum ≡ centred_to l.channel l.mean l.i) × (l.sum_of_squares ≡ squares_to l.channel l.mean l.i)
-
-abbrev pub decreases-loop-i : goal.decreases-loop-i
-decreases-loop-i l = l.to - l.i
+abbrev pub invariant-loop-reading : goal.invariant-loop-reading
+invariant-loop-reading l = record { sum = l.sum; sum_of_squares = l.sum_of_squares } ≡ fold (with_reading l.mean) l.fn.before (take l.reading-index l.readings)

@@ -4,14 +4,11 @@ use Prim.Native.Nat.{ℕ}
 use Rattle.refusals.specs.Stated.{values_of}
 use Rattle.refusals.specs.declared.Refusal.{Refusal}
 use Rattle.refusals.specs.declared.Refusal.TheVariants.{Penalty, MinLen, Channels, Shape, Unequal, TooLong, Room, NonFinite, Pool, Form, Piece, Target, Sigma, Weight, Bound}
-use Rattle.refusals.specs.declared.Values.{Values}
+use Rattle.std.specs.Prelude.{None}
 use Rattle.refusals.proofs.Refusal.values.Goals as goal
 
-abbrev none : Values
-none = record { count = 0; first = 0; second = 0 }
-
 -- for the other arm of the match
-none_of : (r : Refusal) → ((channel index : ℕ) → r ≡ NonFinite channel index → ⊥) → none ≡ values_of r
+none_of : (r : Refusal) → ((channel index : ℕ) → r ≡ NonFinite channel index → ⊥) → None ≡ values_of r
 unfolding values_of
 none_of Penalty h = refl
 none_of MinLen h = refl

@@ -1,0 +1,3 @@
+pub mod Walk
+pub mod CusumPut
+pub mod EwmaPut

@@ -1,7 +1,0 @@
-use mathlib.Core.Path.{refl}
-use Rattle.candidate.specs.Boxes.{span_at}
-use Rattle.candidate.proofs.boxes.first.Goals as goal
-
-pub returns : goal.returns
-unfolding span_at
-returns c = refl
