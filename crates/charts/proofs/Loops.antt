@@ -7,90 +7,94 @@ use native.Mathlib.Omega.{arith}
 use native.Mathlib.Numerals.{add-one}
 use borrow.Author.Tests.{lt-ltb}
 use lib.Dec.{ltb}
-use lib.ListN.{length, set, length-append}
-use lib.Ieee.{Float}
+use lib.ListN.{length, get_or, set, length-append}
+use lib.Ieee.{Float, nan}
 use Rattle.std.specs.Prelude.{Result, Ok, Err}
 use Rattle.refusals.specs.Limits.{max_readings}
 use Rattle.refusals.specs.Tried.{count_of}
 use Rattle.refusals.proofs.TriedLaws.{passes, refuses, verdict, no_count}
 use Rattle.refusals.specs.declared.Refusal.{Refusal}
-use Rattle.charts.specs.Runs.{state_at, record_at, records, points, following, lent}
-use Rattle.charts.proofs.Runs.{state_more, lent_more, length_lent, length_records, points_few}
+use Rattle.charts.specs.Runs.{state_at, points, lent}
+use Rattle.charts.proofs.Runs.{lent_more, length_lent, length_written, points_few, written}
 use Rattle.charts.specs.Answers.{chart_tests, chart_answer, admitted_as}
 use Rattle.charts.specs.Outcomes.{analyzed, provided, signalled}
 use Rattle.charts.specs.Notes.{noted}
 use Rattle.charts.proofs.Answers.{passed_count, few, few_records, roomy}
 
 -- ---- the loop of `analyze`
-module _ {C S D : Type 0} (shown : S → D) (start : C → S) (step : C → S → ℕ → Float → S) (c : C) (xs : List Float) (entry : List D) where
+module _ {C S D : Type 0} (shown : S → D) (start : C → S) (step : C → S → ℕ → Float → S) (c : C) (xs : List Float) (n : ℕ) (entry : List D) where
   -- after `i` readings the state is `s`, and `l` is what the lent list `entry` has become
   pub record Recording (s : S) (i : ℕ) (l : List D) : Type 0 where
+    pub within : i ≤ n
     pub state : s ≡ state_at shown start step c xs i
-    pub writes : l ≡ lent (records shown start step c xs i) entry
+    pub writes : l ≡ written shown start step c xs i entry
 
   pub none_recorded : Recording (start c) 0 entry
-  none_recorded = record { state = refl; writes = refl }
+  none_recorded = record { within = omega arith; state = refl; writes = refl }
 
-  -- a turn: the reading at `i`, and its record written
-  pub one_recorded : (s s' : S) (i : ℕ) (l : List D) → Recording s i l → i < length xs → i < length entry → s' ≡ following step c xs i s → Recording s' (i + 1) (set l i (shown s'))
-  one_recorded s s' i l r reads room next =
-      let moves = state_more shown start step c xs i s s' r.state reads next in
-      record {
-        state = rw add-one moves;
-        writes = rw (add-one, r.writes, moves) (lent_more (records shown start step c xs i) entry (record_at shown start step c xs i) (shown (start c)) i (length_records shown start step c xs i) room);
-      }
+  module _ (s : S) (i : ℕ) (l : List D) (r : Recording s i l) where
+    pub recorded_length : length l ≡ length entry
+    recorded_length = ap length r.writes ∙ length_written shown start step c xs i entry
 
-  -- the list keeps its length, and after all `n` readings it is what the contract says
-  module _ (n : ℕ) (s : S) (i : ℕ) (l : List D) (r : Recording s i l) (within : i ≤ n) where
-    pub recorded_length : n ≤ length entry → length l ≡ length entry
-    recorded_length room =
-        let few : length (records shown start step c xs i) ≤ length entry = omega (arith, length_records shown start step c xs i, within, room) in
-        rw r.writes (length_lent (records shown start step c xs i) entry few)
+    -- a turn: the reading at `i`, and its record written
+    pub one_recorded : (s' : S) → i < n → s' ≡ step c s i (get_or xs i nan) → Recording s' (i + 1) (set l i (shown s'))
+    one_recorded s' below next =
+        let moves : s' ≡ state_at shown start step c xs (suc i) = next ∙ ap (λ (t : S). step c t i (get_or xs i nan)) r.state in
+        record { within = omega (arith, below); state = rw add-one moves; writes = rw (add-one, r.writes, moves) refl }
 
-    pub all_recorded : n ≤ i → l ≡ lent (records shown start step c xs n) entry
-    all_recorded h = let e : n ≡ i = omega (arith, h, within) in rw e r.writes
+    pub all_recorded : n ≤ i → l ≡ written shown start step c xs n entry
+    all_recorded h = let e : n ≡ i = omega (arith, h, r.within) in rw e r.writes
 
 -- ---- the loop of `signal_points`: `points` stand at the front of the lent indices, and `count` is their number
 pub record Stands (points entry : List ℕ) (count : ℕ) (exit : List ℕ) : Type 0 where
   pub counted : count ≡ length points
   pub written : exit ≡ lent points entry
 
-module _ {C S D : Type 0} (shown : S → D) (start : C → S) (step : C → S → ℕ → Float → S) (signals : D → Bool) (c : C) (xs : List Float) (entry : List ℕ) where
+module _ {C S D : Type 0} (shown : S → D) (start : C → S) (step : C → S → ℕ → Float → S) (signals : D → Bool) (c : C) (xs : List Float) (n : ℕ) (entry : List ℕ) where
   -- after `i` readings the state is `s`, and the indices among them that signal stand at the front of `l`
   pub record Marking (s : S) (count i : ℕ) (l : List ℕ) : Type 0 where
+    pub within : i ≤ n
     pub state : s ≡ state_at shown start step c xs i
     pub stands : Stands (points shown start step c xs signals i) entry count l
 
   pub none_marked : Marking (start c) 0 0 entry
-  none_marked = record { state = refl; stands = record { counted = refl; written = refl } }
+  none_marked = record { within = omega arith; state = refl; stands = record { counted = refl; written = refl } }
 
-  -- a turn: the reading at `i`, and its index noted
-  module _ (s s' : S) (count i r : ℕ) (l l' : List ℕ) (m : Marking s count i l) (reads : i < length xs) (room : length l ≡ length entry) (below : i < length entry)
-      (next : s' ≡ following step c xs i s) (left : ◌≡◌ {A = ℕ × List ℕ} (r, l') (noted (signals (shown s')) i count l)) where
-    moves : s' ≡ state_at shown start step c xs (suc i)
-    moves = state_more shown start step c xs i s s' m.state reads next
+  module _ (s : S) (count i : ℕ) (l : List ℕ) (m : Marking s count i l) (room : n ≤ length entry) where
+    pub marked_length : length l ≡ length entry
+    marked_length =
+        let f = points_few shown start step c xs signals i in
+        ap length m.stands.written ∙ length_lent (points shown start step c xs signals i) entry (omega (arith, f, m.within))
 
-    -- there is room for one index more
-    room_for : ltb count (length l) ≡ true
-    room_for = lt-ltb count (length l) (omega (arith, room, points_few shown start step c xs signals i, m.stands.counted, below))
+    pub all_marked : n ≤ i → Stands (points shown start step c xs signals n) entry count l
+    all_marked h = let e : n ≡ i = omega (arith, h, m.within) in rw e m.stands
 
-    stands_more : (b : Bool) → signals (shown s') ≡ b → let p = points shown start step c xs signals i in Stands (cond b (p ++ (i ∷ [])) p) entry r l'
-    stands_more true e =
-        let p = points shown start step c xs signals i in
-        let more = rw (e, room_for) at left in
-        record {
-          counted = ap (λ (o : ℕ × List ℕ). o.0) more ∙ ap (λ (k : ℕ). k + 1) m.stands.counted ∙ sym (length-append p (i ∷ []));
-          written =
-              ap (λ (o : ℕ × List ℕ). o.1) more
-              ∙ ap (λ (t : List ℕ). set t count i) m.stands.written
-              ∙ lent_more p entry i 0 count (sym m.stands.counted) (omega (arith, points_few shown start step c xs signals i, m.stands.counted, below));
-        }
-    stands_more false e = let same = rw e at left in record { counted = ap (λ (o : ℕ × List ℕ). o.0) same ∙ m.stands.counted; written = ap (λ (o : ℕ × List ℕ). o.1) same ∙ m.stands.written }
+    -- a turn: the reading at `i`, and its index noted
+    module _ (s' : S) (r : ℕ) (l' : List ℕ) (below : i < n) (next : s' ≡ step c s i (get_or xs i nan)) (left : ◌≡◌ {A = ℕ × List ℕ} (r, l') (noted (signals (shown s')) i count l)) where
+      moves : s' ≡ state_at shown start step c xs (suc i)
+      moves = next ∙ ap (λ (t : S). step c t i (get_or xs i nan)) m.state
 
-    pub one_more : Marking s' r (i + 1) l'
-    one_more =
-        let tells : signals (shown s') ≡ signals (shown (state_at shown start step c xs (suc i))) = ap (λ (t : S). signals (shown t)) moves in
-        record { state = rw add-one moves; stands = rw add-one (stands_more (signals (shown (state_at shown start step c xs (suc i)))) tells) }
+      -- there is room for one index more
+      room_for : ltb count (length l) ≡ true
+      room_for = lt-ltb count (length l) (omega (arith, marked_length, points_few shown start step c xs signals i, m.stands.counted, below))
+
+      stands_more : (b : Bool) → signals (shown s') ≡ b → let p = points shown start step c xs signals i in Stands (cond b (p ++ (i ∷ [])) p) entry r l'
+      stands_more true e =
+          let p = points shown start step c xs signals i in
+          let more = rw (e, room_for) at left in
+          record {
+            counted = ap (λ (o : ℕ × List ℕ). o.0) more ∙ ap (λ (k : ℕ). k + 1) m.stands.counted ∙ sym (length-append p (i ∷ []));
+            written =
+                ap (λ (o : ℕ × List ℕ). o.1) more
+                ∙ ap (λ (t : List ℕ). set t count i) m.stands.written
+                ∙ lent_more p entry i 0 count (sym m.stands.counted) (omega (arith, points_few shown start step c xs signals i, m.stands.counted, below));
+          }
+      stands_more false e = let same = rw e at left in record { counted = ap (λ (o : ℕ × List ℕ). o.0) same ∙ m.stands.counted; written = ap (λ (o : ℕ × List ℕ). o.1) same ∙ m.stands.written }
+
+      pub one_more : Marking s' r (i + 1) l'
+      one_more =
+          let tells : signals (shown s') ≡ signals (shown (state_at shown start step c xs (suc i))) = ap (λ (t : S). signals (shown t)) moves in
+          record { within = omega (arith, below); state = rw add-one moves; stands = rw add-one (stands_more (signals (shown (state_at shown start step c xs (suc i)))) tells) }
 
 -- ---- the outcomes, where the settings and the sizes were admitted with the count `n`, and where they were refused
 module _ (ts : List (Bool × Refusal)) (n room : ℕ) where

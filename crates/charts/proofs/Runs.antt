@@ -7,7 +7,7 @@ use native.Mathlib.Omega.{arith}
 use native.Mathlib.Numerals.{add-one}
 use native.Mathlib.Nat.{not-suc-le-zero, le_of_suc-le-suc, eq-or-lt_of_le}
 use mathlib.Core.Logic.{inl, inr}
-use lib.ListN.{length, get_or, set, drop, length-append, length-drop}
+use lib.ListN.{length, get_or, set, drop, length-set, length-append, length-drop}
 use lib.Seq.{drop-cons, set_at, get_or-append_seam}
 use borrow.Author.Tests.{lt-ltb}
 use lib.Ieee.{Float, nan}
@@ -32,9 +32,24 @@ module _ {C S D : Type 0} (shown : S → D) (start : C → S) (step : C → S �
   state_more i s s' state reads next = next ∙ following_is step c xs i s reads ∙ ap (λ (t : S). step c t i (get_or xs i nan)) state
 
   -- ---- records
+  -- the lent list `entry` after `n` turns of the loop that fills it
+  abbrev pub written : ℕ → List D → List D
+  written zero entry = entry
+  written (suc n) entry = set (written n entry) n (record_at shown start step c xs n)
+
+  pub length_written : (n : ℕ) (entry : List D) → length (written n entry) ≡ length entry
+  length_written zero entry = refl
+  length_written (suc n) entry = length-set (written n entry) n (record_at shown start step c xs n) ∙ length_written n entry
+
   pub length_records : (n : ℕ) → length (records shown start step c xs n) ≡ n
   length_records zero = refl
   length_records (suc n) = length-append (records shown start step c xs n) (record_at shown start step c xs n ∷ []) ∙ ap (λ (k : ℕ). k + 1) (length_records n) ∙ add-one n
+
+  pub written_lent : (n : ℕ) (entry : List D) → n ≤ length entry → written n entry ≡ lent (records shown start step c xs n) entry
+  written_lent zero entry h = refl
+  written_lent (suc n) entry h =
+      ap (λ (l : List D). set l n (record_at shown start step c xs n)) (written_lent n entry (omega arith))
+      ∙ lent_more (records shown start step c xs n) entry (record_at shown start step c xs n) (shown (start c)) n (length_records n) h
 
   -- the record at `i` among the first `n`, at the front of a lent list
   pub record_in : (n i : ℕ) (rest : List D) (fallback : D) → i < n → get_or (records shown start step c xs n ++ rest) i fallback ≡ record_at shown start step c xs i

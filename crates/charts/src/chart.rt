@@ -75,8 +75,8 @@ pub fn analyze<C: Chart>(
 }
 
 // Writes the index of each reading of `data` that signals to the front of `points`, which needs room for
-// as many as there are readings, and leaves the others; a refusal changes nothing. Cost: one step for each
-// reading.
+// as many as there are readings, and leaves the others; a refusal changes nothing. The series bounds the
+// loop, so that no reading is looked for beyond it. Cost: one step for each reading.
 pub fn signal_points<C: Chart>(
     chart: C,
     data: &[f64],
@@ -84,10 +84,10 @@ pub fn signal_points<C: Chart>(
 ) -> Result<usize, Refusal>
     ensures { (result, points.new) ≡ signalled (setting_tests (C.in_range chart)) (length «data».now) (Runs.points C.shown C.start C.next chart «data».now (λ r. signals (C.side r)) (length «data».now)) points.old }
 {
-    let n = judge(chart, data.len(), points.len())?;
+    judge(chart, data.len(), points.len())?;
     let mut state = chart.start();
     let mut count = 0;
-    for i in 0..n {
+    for i in 0..data.len() {
         state = chart.following(data, i, state);
         count = note(signals(C::side(C::shown(state))), i, count, points);
     }

@@ -52,12 +52,15 @@ fn search(
 fn find_cuts(input: &[u8], cuts: &mut [usize; CUTS]) -> Result<usize, Refusal>
     ensures { Says result cuts.new (request_said (request_of input.now)) }
 {
+    // The areas are moved out, so that they are copied for a request alone.
     let parsed = read_request(input);
+    let run = parsed.run;
+    let area = parsed.lengths;
     let Some(request) = parsed.request else {
         return Err(Refusal::Form);
     };
-    let readings = &parsed.run[..request.readings];
-    let lengths = &parsed.lengths[..request.channels];
+    let readings = &run[..request.readings];
+    let lengths = &area[..request.channels];
     search(request, readings, lengths, cuts)
 }
 

@@ -117,6 +117,8 @@ impl Ewma {
     pub fn signal_points(self, data: &[f64], points: &mut [usize]) -> Result<usize, Refusal>
         ensures { (result, points.new) ≡ signalled self «data».now points.old }
     {
-        charts::signal_points(self, data, points)
+        // The count has a line of its own, so that a wrong one can be tried without another proof.
+        let count = charts::signal_points(self, data, points)?;
+        Ok(count)
     }
 }

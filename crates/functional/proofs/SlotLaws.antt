@@ -1,13 +1,11 @@
 -- Laws of slots: what stores in one do, that the others stay, and loops over them. Assumes nothing.
-use Rattle.std.proofs.Common.{◌≡◌, ℕ, suc, ◌+◌, ◌≤◌, ◌<◌, List, [], ◌∷◌, ◌++◌, length, get_or, take, drop, set, length-set, length-take, length-drop, append_assoc, add-zero, refl, sym, ap, ◌∙◌, subst, arith, get_or-set_same, get_or-set_other}
-use Rattle.std.proofs.lemmas.List.{drop-take, drop-drop, take-take, take-append-le, drop-append-le}
-use Rattle.std.proofs.lemmas.List.Edits.{take-paste, drop-paste, length-paste}
-use lib.Seq.{paste, drop-set-lt, get_or-drop, get_or-take}
+use Rattle.std.proofs.Common.{◌≡◌, ℕ, suc, ◌+◌, ◌≤◌, ◌<◌, List, [], ◌∷◌, ◌++◌, length, get_or, set, length-set, add-one, refl, sym, ap, ◌∙◌, subst, arith, get_or-set_same, get_or-set_other}
+use lib.Seq.{drop-set-lt, get_or-drop, get_or-take}
 use lib.Ieee.{Float, nan}
 use mathlib.Core.Logic.{⊎_elim}
 use native.Mathlib.Nat.{eq-or-lt_of_le, le_of_suc-le-suc}
 use Rattle.areas.specs.Parts.{part}
-use Rattle.areas.proofs.PartLaws.{part_at}
+use Rattle.areas.proofs.PartLaws.{part_at, push, part_suc, frame_refl, frame_set, frame_wide}
 use Rattle.candidate.specs.declared.Candidate.{Candidate}
 use Rattle.candidate.specs.Boxes.{at}
 use Rattle.candidate.specs.Balls.{held_at}
@@ -126,38 +124,26 @@ pub balls_beside_facing : (slot : List Float) (x : Facing) → ball_floats (put_
 unfolding put_facing
 balls_beside_facing slot x = four_balls slot 4 x.cx x.cy x.outer x.inner (omega arith)
 
--- ---- a run of floats copied
-pub copied_pasted : (x s : List Float) (to count : ℕ) → to + count ≤ length x → count ≤ length s → Copied x (paste x to s count) to (take count s) count
+-- ---- a run of floats copied, one after the other
+pub copied_none : (area xs : List Float) (to place : ℕ) → Copied area area to (part xs place 0) 0
 unfolding part
-copied_pasted x s to count h l =
-    let y = paste x to s count in
-    let long : length (take to x) ≡ to = length-take to x ∙ omega arith in
-    let none : drop to (take to x) ≡ [] = rw add-zero at (drop-take to 0 x) in
-    let front : take (to + count) y ≡ take to x ++ take count s = take-paste x to s count (omega arith) l in
+copied_none area xs to place = record { here = refl; frame = frame_refl area to 0 }
+
+pub copied_more : {x y : List Float} (xs : List Float) (to place i p : ℕ) (v : Float) → Copied x y to (part xs place i) i → p ≡ to + i → p < length y → place + i < length xs
+    → v ≡ get_or xs (place + i) nan → Copied x (set y p v) to (part xs place (i + 1)) (i + 1)
+copied_more {x} {y} xs to place i p v r e h l q =
     record {
       here =
-          sym (drop-take to count y)
-          ∙ ap (drop to) front
-          ∙ drop-append-le to (take to x) (take count s) (omega arith)
-          ∙ ap (λ (r : List Float). r ++ take count s) none;
-      frame = record {
-        front =
-            sym (take-take to (to + count) y (omega arith))
-            ∙ ap (take to) front
-            ∙ take-append-le to (take to x) (take count s) (omega arith)
-            ∙ take-take to to x (omega arith);
-        back = drop-paste x to s count (omega arith) l;
-        long = length-paste x to s count h l;
-      };
+          push y to i p v e h
+          ∙ ap (λ (l : List Float). l ++ (v ∷ [])) r.here
+          ∙ ap (λ (w : Float). part xs place i ++ (w ∷ [])) q
+          ∙ sym (part_suc xs place i nan l)
+          ∙ ap (part xs place) (sym (add-one i));
+      frame = frame_set p v (frame_wide to (i + 1) r.frame (omega arith) (omega arith)) (omega arith) (omega arith);
     }
 
--- by `copy_from_slice` of a part
-pub copied_range : (x from ys : List Float) (to place count k m : ℕ) → to + count ≤ length x → place + count ≤ length from → k ≡ count → m ≡ count → ys ≡ take m (drop place from)
-    → Copied x (take to x ++ (ys ++ drop k (drop to x))) to (part from place count) count
-unfolding part
-copied_range x from ys to place count k m h l ek em ey =
-    let same : paste x to (drop place from) count ≡ take to x ++ (ys ++ drop k (drop to x)) = append_assoc (take to x) _ _ ∙ (rw (ey, em, ek, drop-drop count to x) refl) in
-    subst (λ (z : List Float). Copied x z to (take count (drop place from)) count) same (copied_pasted x (drop place from) to count h (simp length-drop (omega arith)))
+pub copied_all : {x y : List Float} (xs : List Float) (to place : ℕ) {i count : ℕ} → i ≡ count → Copied x y to (part xs place i) i → Copied x y to (part xs place count) count
+copied_all {x} {y} xs to place e r = subst (λ (k : ℕ). Copied x y to (part xs place k) k) e r
 
 copied_at : {x y xs : List Float} {to count : ℕ} (i : ℕ) → Copied x y to xs count → i < count → get_or y (to + i) nan ≡ get_or xs i nan
 copied_at {x} {y} {xs} {to} {count} i r h = part_at y to count i nan h ∙ ap (λ (l : List Float). get_or l i nan) r.here

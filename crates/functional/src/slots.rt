@@ -55,13 +55,17 @@ pub(crate) fn put_facing(slot: &mut Slot, x: Facing)
     slot[7] = x.inner;
 }
 
-// Copies `from[place..place + count]` to the same floats of the balls of a slot.
+// Copies `from[place..place + count]` to the same floats of the balls of a slot. No `copy_from_slice`:
+// between two slots of the pool it becomes a call of memmove, and include/overbrindle.h names memcpy and
+// memset alone. Cost: one turn for each float.
 fn copy_run(slot: &mut Slot, from: &[f64], place: usize, count: usize)
     requires { (place + count ≤ 3 * losing_balls) × (length from.now ≡ 3 * losing_balls) }
     ensures { Copied slot.old slot.new (8 + place) (part from.now place count) count }
 {
     let to = HEADER + place;
-    slot[to..to + count].copy_from_slice(&from[place..place + count]);
+    for i in 0..count {
+        slot[to + i] = from[place + i];
+    }
 }
 
 // Copies the `count` balls at the front of `from` into a slot; floats behind them are not copied.

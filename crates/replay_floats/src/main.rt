@@ -38,7 +38,8 @@ fn next_case(out: &Stdout, source: &mut Source, read: u64) -> io::Result<Option<
     }
 }
 
-// Replays the cases of `source`. The count ends the loop, since nothing says that the input does.
+// Replays the cases of `source`. The count ends the loop, since nothing says that the input does. No tally
+// is ever above the number of cases read (`proofs/replay`).
 fn replay(out: &Stdout, source: &mut Source) -> io::Result<Progress> {
     let mut progress = Progress::new();
     for read in 0..u64::MAX {

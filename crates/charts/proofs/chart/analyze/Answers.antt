@@ -1,12 +1,13 @@
 -- `charts::chart::analyze` meets its contract: what the loop leaves is the run's records. Assumes nothing.
-use mathlib.Core.Path.{refl, ◌≡◌}
+use mathlib.Core.Path.{refl, ◌∙◌}
 use Prim.Native.Nat.{◌<◌}
 use native.Mathlib.Omega.{arith}
 use borrow.Author.Rules.{rules}
 use lib.ListN.{length}
 use Rattle.charts.specs.Runs.{records}
 use Rattle.charts.specs.Settings.{setting_tests}
-use Rattle.charts.proofs.Loops.{none_recorded, one_recorded, admitted_sizes, analyzed_ok, analyzed_err}
+use Rattle.charts.proofs.Loops.{none_recorded, one_recorded, all_recorded, admitted_sizes, analyzed_ok, analyzed_err}
+use Rattle.charts.proofs.Runs.{following_is, written_lent}
 use Rattle.charts.proofs.chart.analyze.Goals as goal
 
 pub returns-in_err-n : goal.returns-in_err-n
@@ -16,7 +17,7 @@ returns-in_err-n g c =
     search rules
 
 pub loop-i-init : goal.loop-i-init
-loop-i-init g c = let m = g.C.Chart in rw c.start-state.ensures (none_recorded m.shown m.start m.next _ _ _)
+loop-i-init g c = let m = g.C.Chart in rw c.start-state.ensures (none_recorded m.shown m.start m.next _ _ _ _)
 
 pub offset_bounds-records-i : goal.offset_bounds-records-i
 offset_bounds-records-i g c =
@@ -33,12 +34,15 @@ pub loop-i-preserved : goal.loop-i-preserved
 loop-i-preserved g c =
     let m = g.C.Chart in
     let sizes = admitted_sizes _ _ _ _ (c.in_ok-n.ensures) in
-    rw c.shown.ensures (one_recorded m.shown m.start m.next _ _ _ _ _ _ _ c.loop-i.invariant (omega (arith, c.loop-i-test.true, sizes.0)) (omega (arith, c.loop-i-test.true, sizes.0, sizes.1)) c.following-state.ensures)
+    let a = c.args in
+    let reads : c.loop-i.i < length a.«data».now = omega (arith, c.loop-i-test.true, sizes.0) in
+    let steps = following_is m.next a.chart a.«data».now c.loop-i.i c.loop-i.state reads in
+    rw c.shown.ensures (one_recorded m.shown m.start m.next _ _ _ _ _ _ _ c.loop-i.invariant _ c.loop-i-test.true (rw steps at c.following-state.ensures))
 
 pub returns : goal.returns
 returns g c =
     let a = c.args in let m = g.C.Chart in
     let sizes = admitted_sizes _ _ _ _ (c.in_ok-n.ensures) in
-    let all : c.loop-i.i ≡ c.in_ok-n.n = omega (arith, c.loop-i-test.false, c.loop-i.auto.i-end) in
-    analyzed_ok (setting_tests (m.in_range a.chart)) (length a.«data».now) (records m.shown m.start m.next a.chart a.«data».now) a.records.now c.in_ok-n.n _ (c.in_ok-n.ensures)
-    (rw all at c.loop-i.invariant.writes)
+    let all = all_recorded m.shown m.start m.next _ _ _ _ _ _ _ c.loop-i.invariant (omega (arith, c.loop-i-test.false)) in
+    let left = written_lent m.shown m.start m.next a.chart a.«data».now c.in_ok-n.n a.records.now (omega (arith, sizes.0, sizes.1)) in
+    analyzed_ok (setting_tests (m.in_range a.chart)) (length a.«data».now) (records m.shown m.start m.next a.chart a.«data».now) a.records.now c.in_ok-n.n _ (c.in_ok-n.ensures) (all ∙ left)

@@ -1,6 +1,16 @@
-use Rattle.std.proofs.Common.{◌+◌, arith}
-use Rattle.functional.proofs.SlotLaws.{copied_range}
+use Rattle.std.proofs.Common.{◌+◌, refl, arith}
+use Rattle.functional.proofs.SlotLaws.{copied_none, copied_more, copied_all}
 use Rattle.functional.proofs.slots.copy_run.Goals as goal
 
+pub loop-i-init : goal.loop-i-init
+loop-i-init c = copied_none _ _ _ _
+
+pub loop-i-preserved : goal.loop-i-preserved
+loop-i-preserved c =
+    let a = c.args in
+    copied_more a.from.now _ a.place c.loop-i.i _ _ c.loop-i.invariant refl (omega arith) (omega arith) refl
+
 pub returns : goal.returns
-returns c = let a = c.args in copied_range a.slot.now a.from.now _ (8 + a.place) a.place a.count _ _ (omega arith) (omega arith) (omega arith) (omega arith) c.copy_from_slice.ensures.after
+returns c =
+    let a = c.args in
+    copied_all a.from.now (8 + a.place) a.place (omega arith) c.loop-i.invariant
