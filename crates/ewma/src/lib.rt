@@ -117,8 +117,13 @@ impl Ewma {
     pub fn signal_points(self, data: &[f64], points: &mut [usize]) -> Result<usize, Refusal>
         ensures { (result, points.new) ≡ signalled self «data».now points.old }
     {
-        // The count has a line of its own, so that a wrong one can be tried without another proof.
-        let count = charts::signal_points(self, data, points)?;
-        Ok(count)
+        run_points(self, data, points)
     }
+}
+
+// The indices that signal in the run of states, which shows the chart's own records (`proofs/AtRest`).
+fn run_points(chart: Ewma, data: &[f64], points: &mut [usize]) -> Result<usize, Refusal>
+    ensures { (result, points.new) ≡ signalled chart «data».now points.old }
+{
+    charts::signal_points(chart, data, points)
 }
